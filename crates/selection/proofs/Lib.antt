@@ -1,0 +1,2 @@
+-- Laws of selection and of the operations.
+pub mod Up

@@ -1,0 +1,5 @@
+-- What a reader must believe of selection and of the three operations.
+pub mod Embeddings
+pub mod Ways
+pub mod Lists
+pub mod Operations

@@ -1,0 +1,25 @@
+-- The limits of document 01, each named once.
+use Prim.Native.Nat.{ℕ}
+
+-- steps of a pattern
+abbrev pub stepLimit : ℕ
+stepLimit = 64
+
+-- nodes of an inserted tree
+abbrev pub treeLimit : ℕ
+treeLimit = 256
+
+-- used nodes of a document
+abbrev pub usedLimit : ℕ
+usedLimit = 4096
+
+-- steps and nodes that the plain reading takes
+abbrev pub plainSteps : ℕ
+plainSteps = 8
+
+abbrev pub plainNodes : ℕ
+plainNodes = 16
+
+-- labels are below this: a word has 16 bits
+abbrev pub wordLimit : ℕ
+wordLimit = 65536
