@@ -3,10 +3,10 @@ use Prim.Native.Nat.{ℕ, zero, suc, _/_, _%_}
 use mathlib.Core.Bool.{Bool, true, false, _&&_, _||_, cond}
 use mathlib.Core.List.{List}
 use lib.Dec.{eqb, ltb, leb}
-use lib.ListN.{length}
+use lib.ListN.{length, getD}
 use Rattle.tables.specs.Limits.{usedLimit}
 use Rattle.tables.specs.Words.{steps, axis, nodes, parent, tag}
-use Rattle.tables.specs.Documents.{Doc, mark}
+use Rattle.tables.specs.Documents.{Doc}
 use Rattle.tables.specs.declared.refusal.Checked.{Checked}
 use Rattle.tables.specs.declared.refusal.Checked.the-variants.{Fine, Refused}
 
@@ -30,13 +30,10 @@ unfoldable pub each : (ℕ → Checked) → ℕ → ℕ → Checked
 each check v zero = Fine
 each check v (suc k) = check v then each check (suc v) k
 
--- 1: no words or an odd number
-unfoldable pub wordsCheck : List ℕ → ℕ → Checked
-wordsCheck t table = test (ltb 0 (length t) && eqb (length t % 2) 0) (refuse 1 table 0)
-
--- 2: more steps or nodes than the limit
-unfoldable pub limitCheck : ℕ → ℕ → ℕ → Checked
-limitCheck n limit table = test (leb n limit) (refuse 2 table 0)
+-- 1 for no words or an odd number, then 2 for more steps or nodes than the limit: of n words, two a step or node
+unfoldable pub sizeCheck : ℕ → ℕ → ℕ → Checked
+sizeCheck n limit table =
+    test (ltb 0 n && eqb (n % 2) 0) (refuse 1 table 0) then test (leb (n / 2) limit) (refuse 2 table 0)
 
 -- the first step has axis 0, each later one 1 (child) or 2 (descendant)
 unfoldable pub axisRight : List ℕ → ℕ → Bool
@@ -48,8 +45,7 @@ axisCheck p table i = test (axisRight p i) (refuse 3 table i)
 
 -- a pattern: 1, 2, 3
 unfoldable pub patternCheck : List ℕ → ℕ → ℕ → Checked
-patternCheck p limit table =
-    wordsCheck p table then limitCheck (steps p) limit table then each (axisCheck p table) 0 (steps p)
+patternCheck p limit table = sizeCheck (length p) limit table then each (axisCheck p table) 0 (steps p)
 
 -- the root's parent word is 0, every other parent is less than the node's own number
 unfoldable pub parentRight : List ℕ → ℕ → Bool
@@ -61,23 +57,25 @@ nodeCheck t table v = test (parentRight t v) (refuse 4 table v) then test (ltb 0
 
 -- a tree: 1, 2, then node by node 4 before 5
 unfoldable pub treeCheck : List ℕ → ℕ → ℕ → Checked
-treeCheck t limit table =
-    wordsCheck t table then limitCheck (nodes t) limit table then each (nodeCheck t table) 0 (nodes t)
+treeCheck t limit table = sizeCheck (length t) limit table then each (nodeCheck t table) 0 (nodes t)
 
--- 12: a used count of 0, over 4,096, over half the table's words or over the marks
+-- a used count is not 0, and not over 4,096, half the table's words or the marks
+unfoldable pub usedRight : ℕ → ℕ → ℕ → Bool
+usedRight words marks used = ltb 0 used && (leb used usedLimit && (leb used (words / 2) && leb used marks))
+
+-- 12: a used count is wrong
 unfoldable pub usedCheck : Doc → Checked
-usedCheck d =
-    test (ltb 0 (d .used) && leb (d .used) usedLimit && leb (d .used) (length (d .rows) / 2) && leb (d .used) (length (d .marks)))
-    (refuse 12 5 0)
+usedCheck d = test (usedRight (length (d .rows)) (length (d .marks)) (d .used)) (refuse 12 5 0)
 
 -- a mark is 0 or 1, the root's is 0, and a node's is not less than its parent's: under a removed node all is removed
-unfoldable pub markRight : Doc → ℕ → Bool
-markRight d v = leb (mark d v) 1 && cond (eqb v 0) (eqb (mark d v) 0) (leb (mark d (parent (d .rows) v)) (mark d v))
+unfoldable pub markRight : List ℕ → List ℕ → ℕ → Bool
+markRight t m v = leb (getD m v 0) 1 && cond (eqb v 0) (eqb (getD m v 0) 0) (leb (getD m (parent t v) 0) (getD m v 0))
 
 -- 12: a mark is wrong
-unfoldable pub markCheck : Doc → ℕ → Checked
-markCheck d v = test (markRight d v) (refuse 12 5 0)
+unfoldable pub markCheck : List ℕ → List ℕ → ℕ → Checked
+markCheck t m v = test (markRight t m v) (refuse 12 5 0)
 
 -- a document: 12 for the used count, node by node 4 then 5, 12 for marks
 unfoldable pub documentCheck : Doc → Checked
-documentCheck d = usedCheck d then each (nodeCheck (d .rows) 5) 0 (d .used) then each (markCheck d) 0 (d .used)
+documentCheck d =
+    usedCheck d then each (nodeCheck (d .rows) 5) 0 (d .used) then each (markCheck (d .rows) (d .marks)) 0 (d .used)

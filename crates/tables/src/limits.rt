@@ -1,0 +1,15 @@
+// The limits of document 01, each named once.
+
+// Steps of a pattern.
+pub const STEP_LIMIT: usize = 64;
+
+// Nodes of an inserted tree.
+pub const TREE_LIMIT: usize = 256;
+
+// Used nodes of a document.
+pub const USED_LIMIT: usize = 4096;
+
+// Steps and nodes that the plain reading takes.
+pub const PLAIN_STEPS: usize = 8;
+
+pub const PLAIN_NODES: usize = 16;
