@@ -3,3 +3,5 @@ pub mod Each
 pub mod Outside
 pub mod Tests
 pub mod Branches
+pub mod Accepted
+pub mod Soundness
