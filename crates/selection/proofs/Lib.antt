@@ -1,4 +1,10 @@
 -- Laws of selection and of the operations.
 pub mod Up
 pub mod Runs
+pub mod Presence
 pub mod Selecting
+pub mod Lists
+pub mod Deleting
+pub mod Keeping
+pub mod Grafting
+pub mod Inserting

@@ -14,11 +14,8 @@ use Rattle.tables.specs.Documents.{Doc, Sound, present, mark}
 use Rattle.selection.specs.Embeddings.{Child, Below, Below.one, Below.more, Embedding, Selects}
 use Rattle.selection.specs.Ways.{up, run, takes, stays, last, sel, selected}
 use Rattle.selection.proofs.Up.{Up, Up.top, Up.node, way-is}
+use Rattle.selection.proofs.Presence.{present-used}
 use Rattle.selection.proofs.Runs.{Run, Run.first, Run.step, Run.pass, both, of-runs, to-runs, of-takes, to-takes, stays-last, stays-next, stays-axis}
-
--- a present node is a used one
-pub used-of : (d : Doc) (v : ℕ) → present d v ≡ true → v < d .used
-used-of d v e = both (ltb v (d .used)) (eqb (mark d v) 0) e (λ h k. ltb-true v (d .used) h)
 
 pub selected-present : (p : List ℕ) (d : Doc) (v : ℕ) → present d v ≡ true → selected p d v ≡ sel p (up (d .rows) v)
 unfolding selected
@@ -170,7 +167,7 @@ module _ (p : List ℕ) (d : Doc) where
       chain : present d v ≡ true → sel p (up (d .rows) v) ≡ true → Chain p d (last p) v
       chain here r =
           landed-last
-          (lands sound (of-runs (takes p) (stays p false) (last p) (up (d .rows) v) r) (way-is sound v (used-of d v here)) here)
+          (lands sound (of-runs (takes p) (stays p false) (last p) (up (d .rows) v) r) (way-is sound v (present-used d v here)) here)
 
       placed : present d v ≡ true → sel p (up (d .rows) v) ≡ true → Selects p d v
       placed here r =
@@ -183,7 +180,7 @@ module _ (p : List ℕ) (d : Doc) where
       let b : last p < steps p = le-of-eq (suc-pred-eq-of-pos (pattern .some)) in
       let here : present d v ≡ true = rw (s .output) at (s .embeds .on-present (last p) b) in
       let over : Over p d (last p) v = rw (s .output) at (embedded-over p d pattern (s .place) (s .embeds) (last p) b) in
-      rw (here, to-runs (takes p) (stays p false) (over (up (d .rows) v) (way-is sound v (used-of d v here))))
+      rw (here, to-runs (takes p) (stays p false) (over (up (d .rows) v) (way-is sound v (present-used d v here))))
 
 -- selection by embeddings is selection by the run
 pub selecting : {p : List ℕ} {d : Doc} → Pattern p → Sound d → (v : ℕ) → (selected p d v ≡ true) ↔ Selects p d v

@@ -137,9 +137,9 @@ module _ (t : List ℕ) (limit table : ℕ) (e : treeCheck t limit table ≡ Fin
         named = node-named t table (nodes t) tree-nodes;
         labels = λ v h. words (2 * v + 1);
         closed = λ v some here.
-          let h : v < nodes t = ltb-true v (nodes t) (and-first (ltb v (nodes t)) true here) in
-          let falls : parent t v < v = node-falls t table (nodes t) tree-nodes v some h in
-          rw (lt-ltb (parent t v) (nodes t) (omega arith));
+            let h : v < nodes t = ltb-true v (nodes t) (and-first (ltb v (nodes t)) true here) in
+            let falls : parent t v < v = node-falls t table (nodes t) tree-nodes v some h in
+            rw (lt-ltb (parent t v) (nodes t) (omega arith));
       }
 
 module _ (d : Doc) (e : documentCheck d ≡ Fine) where
@@ -165,11 +165,12 @@ module _ (d : Doc) (e : documentCheck d ≡ Fine) where
       let r = leb n usedLimit && a in
       let u = document-used in
       let v = and-second (ltb 0 n) r u in
-      let w = and-second (leb n usedLimit) a v in
-      (ltb-true 0 n (and-first (ltb 0 n) r u),
-      leb-true n usedLimit (and-first (leb n usedLimit) a v),
-      leb-true n (length (d .rows) / 2) (and-first (leb n (length (d .rows) / 2)) (leb n (length (d .marks))) w),
-      leb-true n (length (d .marks)) (and-second (leb n (length (d .rows) / 2)) (leb n (length (d .marks))) w))
+      let w = and-second (leb n usedLimit) a v in (
+        ltb-true 0 n (and-first (ltb 0 n) r u),
+        leb-true n usedLimit (and-first (leb n usedLimit) a v),
+        leb-true n (length (d .rows) / 2) (and-first (leb n (length (d .rows) / 2)) (leb n (length (d .marks))) w),
+        leb-true n (length (d .marks)) (and-second (leb n (length (d .rows) / 2)) (leb n (length (d .marks))) w),
+      )
 
   mark-at : (v : ℕ) → v < d .used → markRight (d .rows) (d .marks) v ≡ true
   unfolding markCheck
@@ -207,8 +208,8 @@ module _ (d : Doc) (e : documentCheck d ≡ Fine) where
         named = node-named (d .rows) 5 (d .used) document-nodes;
         labels = λ v h. words (2 * v + 1);
         closed = λ v some here.
-          let h : v < d .used = ltb-true v (d .used) (and-first (ltb v (d .used)) (eqb (mark d v) 0) here) in
-          let gone : mark d v ≡ 0 = eqb-true (mark d v) 0 (and-second (ltb v (d .used)) (eqb (mark d v) 0) here) in
-          let above : mark d (parent (d .rows) v) ≡ 0 = omega (arith, mark-above v some h) in
-          rw (lt-ltb (parent (d .rows) v) (d .used) (omega (arith, falls v some h)), above);
+            let h : v < d .used = ltb-true v (d .used) (and-first (ltb v (d .used)) (eqb (mark d v) 0) here) in
+            let gone : mark d v ≡ 0 = eqb-true (mark d v) 0 (and-second (ltb v (d .used)) (eqb (mark d v) 0) here) in
+            let above : mark d (parent (d .rows) v) ≡ 0 = omega (arith, mark-above v some h) in
+            rw (lt-ltb (parent (d .rows) v) (d .used) (omega (arith, falls v some h)), above);
       }

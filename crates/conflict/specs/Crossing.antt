@@ -1,0 +1,46 @@
+-- A run over a way that leads through an inserted copy into the tree above it: the state in which it leaves the copy.
+use Prim.Native.Nat.{ℕ, zero, suc, pred}
+use mathlib.Core.Bool.{Bool, true, false, _&&_, _||_, cond}
+use mathlib.Core.List.{List, [], _∷_, _++_}
+use lib.Dec.{eqb}
+use lib.ListN.{length}
+use Rattle.tables.specs.Words.{nodes}
+use Rattle.selection.specs.Ways.{up, takes, stays, last}
+use Rattle.conflict.specs.Meeting.{meetingOf, shorter}
+
+-- a run in state k over the labels of y, nearest first, is in state i when they are at their end: the labels above are run in state i
+unfoldable pub over : (ℕ → ℕ → Bool) → (ℕ → Bool) → ℕ → List ℕ → ℕ → Bool
+over take stay k [] i = eqb k i
+over take stay zero (l ∷ y) i = stay 0 && over take stay 0 y i
+over take stay (suc k) (l ∷ y) i = (take (suc k) l && over take stay k y i) || (stay (suc k) && over take stay (suc k) y i)
+
+-- r, in state i above, goes on over the way y down to its last step
+unfoldable pub goesOn : List ℕ → List ℕ → ℕ → Bool
+goesOn r y i = over (takes r) (stays r false) (last r) y i
+
+-- f holds at some number below n
+unfoldable pub somewhere : (ℕ → Bool) → ℕ → Bool
+somewhere f zero = false
+somewhere f (suc n) = somewhere f n || f n
+
+-- r, in state i at the update point, goes on to its last step at some node of the inserted tree x
+unfoldable pub enters : List ℕ → List ℕ → ℕ → Bool
+enters r x i = somewhere (λ k. goesOn r (up x k) i) (nodes x)
+
+-- the shortest way to an update point of p at which r is in a state below n from which it enters x; of equally short ones that of the least state
+unfoldable pub entering : List ℕ → List ℕ → List ℕ → ℕ → List ℕ
+entering r p x zero = []
+entering r p x (suc i) = shorter (entering r p x i) (cond (enters r x i) (meetingOf r false p false i (last p)) [])
+
+-- the shortest way on which a read and an update show a conflict, [] for none: for a delete, one that the read selects and the update
+-- hits; for an insert, one that the update selects and from which the read enters the inserted tree
+unfoldable pub deleteWay : List ℕ → List ℕ → List ℕ
+deleteWay r p = meetingOf r false p true (last r) (last p)
+
+unfoldable pub insertWay : List ℕ → List ℕ → List ℕ → List ℕ
+insertWay r p x = entering r p x (last r)
+
+-- the words of a chain with these labels, nearest first: the root is the last of them
+unfoldable pub chain : List ℕ → List ℕ
+chain [] = []
+chain (l ∷ w) = chain w ++ (pred (length w) ∷ l ∷ [])
