@@ -4,6 +4,8 @@ pub mod Runs
 pub mod Presence
 pub mod Selecting
 pub mod Lists
+pub mod Filling
+pub mod Rows
 pub mod Deleting
 pub mod Keeping
 pub mod Grafting

@@ -12,7 +12,7 @@ use Rattle.tables.specs.Limits.{usedLimit}
 use Rattle.tables.specs.declared.refusal.Refusal.{Refusal}
 use Rattle.tables.specs.declared.refusal.Checked.{Checked}
 use Rattle.tables.specs.declared.refusal.Checked.the-variants.{Fine, Refused}
-use Rattle.tables.specs.Checks.{refuse, _then_, sizeCheck, axisRight, parentRight, usedRight, markRight}
+use Rattle.tables.specs.Checks.{refuse, _then_, sizeCheck, axisRight, parentRight, usedRight, markRight, outputCheck}
 
 module _ (p : List ℕ) (i a : ℕ) (e : a ≡ axis p i) where
   pub axis-first : i ≡ 0 → eqb a 0 ≡ axisRight p i
@@ -91,3 +91,12 @@ module _ (t m : List ℕ) (v own : ℕ) (e : own ≡ getD m v 0) where
   pub mark-under : {above u : ℕ} → u ≡ parent t v → above ≡ getD m u 0 → own ≤ 1 → (v ≡ 0 → ⊥) → leb above own ≡ markRight t m v
   unfolding markRight
   mark-under p a h n = rw (← e, le-leb own 1 h, ne-eqb v 0 n, a, p)
+
+module _ (wanted have : ℕ) where
+  pub output-short : {answer : Checked} → answer ≡ refuse 7 4 0 → have < wanted → answer ≡ outputCheck wanted have
+  unfolding outputCheck
+  output-short e h = rw (lt-leb wanted have h) e
+
+  pub output-long : wanted ≤ have → Fine ≡ outputCheck wanted have
+  unfolding outputCheck
+  output-long h = rw (le-leb wanted have h)

@@ -79,3 +79,7 @@ markCheck t m v = test (markRight t m v) (refuse 12 5 0)
 unfoldable pub documentCheck : Doc → Checked
 documentCheck d =
     usedCheck d then each (nodeCheck (d .rows) 5) 0 (d .used) then each (markCheck (d .rows) (d .marks)) 0 (d .used)
+
+-- 7: the output is too short, of so many words or bytes where so many are wanted
+unfoldable pub outputCheck : ℕ → ℕ → Checked
+outputCheck wanted have = test (leb wanted have) (refuse 7 4 0)

@@ -7,7 +7,7 @@ use crate::words::first_word;
 use crate::words::second_word;
 ghost use mathlib.Core.Path.{_≡_};
 ghost use Rattle.tables.specs.Documents.{doc};
-ghost use Rattle.tables.specs.Checks.{each, sizeCheck, axisRight, axisCheck, patternCheck, parentRight, nodeCheck, treeCheck, usedRight, markRight, markCheck, documentCheck};
+ghost use Rattle.tables.specs.Checks.{each, sizeCheck, axisRight, axisCheck, patternCheck, parentRight, nodeCheck, treeCheck, usedRight, markRight, markCheck, documentCheck, outputCheck};
 ghost use lib.Dec.{ltb};
 ghost use Rattle.tables.specs.Words.{tag};
 
@@ -168,4 +168,14 @@ pub fn document(rows: &[u16], marks: &[u8], used: usize) -> Checked
         Checked::Fine => marked(rows, marks, used),
         Checked::Refused(r) => Checked::Refused(r),
     }
+}
+
+// An output of `have` words or bytes where `wanted` are to be written: refusal 7 where it is too short.
+pub fn output(wanted: usize, have: usize) -> Checked
+    ensures { λ r. ⌜ r ≡ outputCheck wanted have ⌝ }
+{
+    if have < wanted {
+        return refused(7, 4, 0);
+    }
+    Checked::Fine
 }

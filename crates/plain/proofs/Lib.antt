@@ -1,0 +1,3 @@
+-- Laws of the plain reading.
+pub mod Landing
+pub mod Promise

@@ -1,0 +1,2 @@
+-- What a reader must believe of the plain reading.
+pub mod Plain
