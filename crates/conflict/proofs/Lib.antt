@@ -1,5 +1,12 @@
--- Laws of the ways on which a read and an update meet.
+-- Laws of the ways on which a read and an update meet, and of the conflicts that these decide.
 pub mod Steps
 pub mod Meeting
 pub mod Shortest
 pub mod Crossing
+pub mod Chains
+pub mod Depth
+pub mod Smallest
+pub mod Deletes
+pub mod Entering
+pub mod Inserts
+pub mod Deeps

@@ -1,0 +1,96 @@
+-- A read and a delete conflict exactly if the read selects at the end of some way that the delete hits; the shortest such way decides it.
+use Prim.Native.Nat.{ℕ, pred, _+_, _<_}
+use native.Mathlib.Nat.{suc-pred-eq-of-pos}
+use native.Mathlib.Omega.{arith}
+use mathlib.Core.Path.{_≡_, refl, sym, _∙_}
+use mathlib.Core.Bool.{true, false, false≢true}
+use mathlib.Core.List.{List}
+use borrow.Author.Tests.{not-false}
+use lib.ListN.{length}
+use Rattle.tables.specs.Limits.{wordLimit}
+use Rattle.tables.specs.Words.{steps, label}
+use Rattle.tables.specs.Patterns.{Pattern}
+use Rattle.tables.specs.Documents.{Doc, bare, present, Sound}
+use Rattle.selection.specs.Lists.{count}
+use Rattle.selection.specs.Ways.{up, run, last, selected}
+use Rattle.selection.specs.Operations.{hits, deleted}
+use Rattle.selection.proofs.Runs.{hits-run}
+use Rattle.selection.proofs.Deleting.{deleted-selects, deleted-sound}
+use Rattle.conflict.specs.Conflict.{delete, Differs, Witness, Conflict, Smallest}
+use Rattle.conflict.specs.Crossing.{deleteWay, chain}
+use Rattle.conflict.proofs.Steps.{Within}
+use Rattle.conflict.proofs.Meeting.{Labels, Common}
+use Rattle.conflict.proofs.Shortest.{length-meetingOf, fewestOf-most, meetingOf-labels, meetingOf-common, fewestOf-within}
+use Rattle.conflict.proofs.Chains.{chain-sound, chain-last, chain-selected-last}
+use Rattle.conflict.proofs.Depth.{by-selected}
+use Rattle.conflict.proofs.Smallest.{Decides, by-differs, differs-at, differs-conflict, smallest, unchanged}
+
+-- a way that the read selects and the delete hits
+abbrev pub Cut : List ℕ → List ℕ → List ℕ → Type 0
+Cut r p = Common (run r false (last r)) (run p true (last p))
+
+module _ (r p : List ℕ) where
+  -- deleteWay is the shortest of these: one where it is not empty, and no longer than any other
+  pub deleteWay-cut : 0 < length (deleteWay r p) → Cut r p (deleteWay r p)
+  unfolding deleteWay
+  deleteWay-cut h = meetingOf-common r false p true (last r) (last p) (rw (length-meetingOf r false p true (last r) (last p)) at h)
+
+  pub deleteWay-within : (w : List ℕ) → Cut r p w → Within (length (deleteWay r p)) (length w)
+  unfolding deleteWay
+  deleteWay-within w c = rw (length-meetingOf r false p true (last r) (last p)) (fewestOf-within r false p true (last r) (last p) w c)
+
+  -- it has fewer labels than both patterns have steps together
+  pub deleteWay-most : 0 < steps r → 0 < steps p → length (deleteWay r p) < steps r + steps p
+  unfolding deleteWay
+  deleteWay-most h k =
+      rw (length-meetingOf r false p true (last r) (last p)) (omega (arith, fewestOf-most r false p true (last r) (last p), suc-pred-eq-of-pos h, suc-pred-eq-of-pos k))
+
+  -- each one that a node may have
+  pub deleteWay-labels : ((k : ℕ) → label r k < wordLimit) → ((k : ℕ) → label p k < wordLimit) → Labels (deleteWay r p)
+  unfolding deleteWay
+  deleteWay-labels = meetingOf-labels r false p true (last r) (last p)
+
+module _ (r p : List ℕ) (pattern : Pattern r) (two : 1 < steps p) where
+  -- the way of a node that is lost is one that the read selects and the delete hits, and no node is gained: so deleteWay has no more labels
+  -- than a document on which the sets differ has present nodes
+  pub delete-within : (d : Doc) → Sound d → Differs r (delete p) d → Within (length (deleteWay r p)) (count (present d) (d .used))
+  delete-within d sound differs =
+      by-differs pattern sound (deleted-sound p d two sound) differs
+      (λ v here gone.
+      by-selected sound r v here (λ reads short.
+      let hit : hits p (up (d .rows) v) ≡ true = not-false (hits p (up (d .rows) v)) (rw (deleted-selects r p d v, here) at gone) in
+      let cut : Cut r p (up (d .rows) v) = record { reads = reads; updates = sym (hits-run p (up (d .rows) v)) ∙ hit } in
+      omega (arith, deleteWay-within r p (up (d .rows) v) cut)))
+      (λ v gone here. absurd (false≢true (rw (deleted-selects r p d v, gone) at here)))
+
+  module _ (names : (k : ℕ) → label r k < wordLimit) (others : (k : ℕ) → label p k < wordLimit) where
+    -- the chain of the way loses its last node
+    pub delete-witness : 0 < length (deleteWay r p) → Witness r (delete p) (chain (deleteWay r p))
+    delete-witness h =
+        let t : List ℕ = chain (deleteWay r p) in
+        let v : ℕ = pred (length (deleteWay r p)) in
+        let cut : Cut r p (deleteWay r p) = deleteWay-cut r p h in
+        let sound : Sound (bare t) = chain-sound (deleteWay r p) (deleteWay-labels r p names others) h in
+        let here : selected r (bare t) v ≡ true = chain-selected-last r (deleteWay r p) h ∙ cut .reads in
+        let hit : hits p (up t v) ≡ true = rw (chain-last (deleteWay r p) h, hits-run p (deleteWay r p)) (cut .updates) in
+        let gone : selected r (deleted p (bare t)) v ≡ false = rw (deleted-selects r p (bare t) v, here, hit) refl in
+        record {
+          sound = sound;
+          differs = differs-at pattern sound (deleted-sound p (bare t) two sound) v (λ e. false≢true (sym gone ∙ e ∙ here));
+        }
+
+    -- so the way decides
+    pub decides-delete : Decides r (delete p) (deleteWay r p)
+    decides-delete = record { witness = delete-witness; within = delete-within }
+
+    -- the way's labels are as many as a smallest witness has nodes
+    pub smallest-delete : Smallest r (delete p) (length (deleteWay r p))
+    smallest-delete = smallest decides-delete
+
+    -- a difference on any sound document is a conflict
+    pub differs-delete : {d : Doc} → Sound d → Differs r (delete p) d → Conflict r (delete p)
+    differs-delete = differs-conflict decides-delete
+
+    -- where there is no conflict, no sound document's selection changes
+    pub unchanged-delete : (Conflict r (delete p) → ⊥) → (d : Doc) → Sound d → (v : ℕ) → selected r (deleted p d) v ≡ selected r d v
+    unchanged-delete clear d sound = unchanged decides-delete clear pattern sound (deleted-sound p d two sound)
