@@ -1,0 +1,15 @@
+// Run vectors: every refusal at its edge, and what each call leaves in the buffers lent to it. What they should print is in `stdout`,
+// worked out from document 01.
+mod documents;
+mod patterns;
+mod plains;
+mod show;
+mod tables_of;
+mod trees;
+
+fn main() {
+    patterns::run();
+    trees::run();
+    documents::run();
+    plains::run();
+}

@@ -1,0 +1,53 @@
+// A line for each case: its name, then what was answered.
+use libc::STDOUT_FILENO;
+use tables::refusal::Checked;
+use tables::refusal::Refusal;
+
+pub fn text(s: &[u8]) {
+    io::write_all(STDOUT_FILENO, s);
+}
+
+pub fn number(n: usize) {
+    io::print_decimal(STDOUT_FILENO, n as u64);
+}
+
+// A refusal as number, table, place.
+pub fn refusal(r: Refusal) {
+    number(r.number);
+    text(b" table ");
+    number(r.table);
+    text(b" place ");
+    number(r.place);
+}
+
+pub fn checked(name: &[u8], c: Checked) {
+    text(name);
+    match c {
+        Checked::Fine => text(b": fine"),
+        Checked::Refused(r) => {
+            text(b": ");
+            refusal(r);
+        }
+    }
+    text(b"\n");
+}
+
+fn byte_at(bytes: &[u8], i: usize) {
+    text(b" ");
+    number(tables::words::byte(bytes, i));
+}
+
+fn all_bytes(bytes: &[u8]) {
+    let mut i = 0;
+    while i < bytes.len() {
+        byte_at(bytes, i);
+        i += 1;
+    }
+}
+
+// The bytes of a row, a space before each.
+pub fn row(bytes: &[u8]) {
+    text(b"  row");
+    all_bytes(bytes);
+    text(b"\n");
+}
