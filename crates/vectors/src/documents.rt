@@ -1,6 +1,6 @@
 // The check of a document: 12 for the used count, node by node 4 then 5, 12 for marks.
 use crate::show::checked;
-use crate::tables_of::pairs;
+use crate::tables_of::{pairs, marks_room, rows_room};
 use tables::checks::document;
 
 fn used_counts() {
@@ -24,9 +24,9 @@ fn halves() {
 }
 
 fn full() {
-    let mut rows = [0u16; 8194];
+    let mut rows = rows_room();
     pairs(&mut rows, 0, 5);
-    let mut marks = [0u8; 4097];
+    let mut marks = marks_room();
     checked(b"4,096 used", document(&rows, &marks, 4096));
     checked(b"4,097 used", document(&rows, &marks, 4097));
     marks[4095] = 2;
@@ -34,9 +34,9 @@ fn full() {
 }
 
 fn last_node() {
-    let mut rows = [0u16; 8192];
+    let mut rows = rows_room();
     pairs(&mut rows, 0, 5);
-    let mut marks = [0u8; 4096];
+    let mut marks = marks_room();
     marks[4095] = 2;
     rows[8191] = 0;
     checked(b"label of node 4,095 is 0", document(&rows, &marks, 4096));
