@@ -23,3 +23,10 @@ plainNodes = 16
 -- labels are below this: a word has 16 bits
 abbrev pub wordLimit : ℕ
 wordLimit = 65536
+
+-- frames and words of a batch
+abbrev pub frameLimit : ℕ
+frameLimit = 128
+
+abbrev pub batchLimit : ℕ
+batchLimit = 16384

@@ -13,3 +13,8 @@ pub const USED_LIMIT: usize = 4096;
 pub const PLAIN_STEPS: usize = 8;
 
 pub const PLAIN_NODES: usize = 16;
+
+// Frames and words of a batch.
+pub const FRAME_LIMIT: usize = 128;
+
+pub const BATCH_LIMIT: usize = 16384;

@@ -1,6 +1,8 @@
 // The check of a document: 12 for the used count, node by node 4 then 5, 12 for marks.
 use crate::show::checked;
-use crate::tables_of::{pairs, marks_room, rows_room};
+use crate::tables_of::marks_room;
+use crate::tables_of::pairs;
+use crate::tables_of::rows_room;
 use tables::checks::document;
 
 fn used_counts() {

@@ -1,0 +1,2 @@
+-- Laws of frames.
+pub mod Branches

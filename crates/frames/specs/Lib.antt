@@ -1,0 +1,2 @@
+-- What a reader must believe of one frame of a batch.
+pub mod Frames

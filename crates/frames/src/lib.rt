@@ -1,0 +1,196 @@
+// One frame of a batch, read where it stands: the place of a refusal is decided here.
+use tables::checks::pattern;
+use tables::checks::tree;
+use tables::limits::FRAME_LIMIT;
+use tables::limits::STEP_LIMIT;
+use tables::limits::TREE_LIMIT;
+use tables::refusal::Checked;
+use tables::refusal::Refusal;
+use tables::refusal::refused;
+use tables::words::word;
+ghost use mathlib.Core.Path.{_≡_};
+ghost use Prim.Native.Nat.{_+_, _-_, _<_, _≤_};
+ghost use lib.ListN.{length};
+ghost use Rattle.tables.specs.Limits.{stepLimit, treeLimit};
+ghost use Rattle.tables.specs.Checks.{_then_, patternCheck, treeCheck};
+ghost use Rattle.frames.specs.Frames.{part, placed, countCheck, kindRight, stepsCheck, nodesCheck, restCheck, frameCheck, frameOf, frameAt};
+
+// A frame: its kind (1 read, 2 insert, 3 delete), where its steps begin, how many steps and nodes it has, where it ends.
+pub struct Frame {
+    pub kind: usize,
+    pub from: usize,
+    pub steps: usize,
+    pub nodes: usize,
+    pub next: usize,
+}
+
+// What reading a frame answers.
+pub enum Framed {
+    Refused(Refusal),
+    Found(Frame),
+}
+
+// A count at a place, and two words for each behind it.
+fn counted(b: &[u16], n: usize, at: usize, limit: usize) -> Checked
+    ensures { λ r. ⌜ r ≡ countCheck (now (b .entry)) n at limit ⌝ }
+{
+    let words = b.len();
+    if words <= at {
+        return refused(9, 6, n);
+    }
+    let count = word(b, at);
+    if count == 0 {
+        return refused(1, 6, n);
+    }
+    if limit < count {
+        return refused(2, 6, n);
+    }
+    if (words - at - 1) / 2 < count {
+        return refused(9, 6, n);
+    }
+    Checked::Fine
+}
+
+// A refusal of a part, as one of frame n.
+fn in_frame(n: usize, c: Checked) -> Checked
+    ensures { λ r. ⌜ r ≡ placed n c ⌝ }
+{
+    match c {
+        Checked::Fine => Checked::Fine,
+        Checked::Refused(r) => refused(r.number, 6, n),
+    }
+}
+
+// The steps of frame n, as a part of the batch.
+fn steps_part(b: &[u16], n: usize, from: usize, to: usize) -> Checked
+    requires { ⌜ (from ≤ to) × (to ≤ length (now b)) ⌝ }
+    ensures { λ r. ⌜ r ≡ placed n (patternCheck (part (now (b .entry)) from (to - from)) stepLimit 6) ⌝ }
+{
+    in_frame(n, pattern(&b[from..to], STEP_LIMIT, 6))
+}
+
+// The nodes of frame n, as a part of the batch.
+fn nodes_part(b: &[u16], n: usize, from: usize, to: usize) -> Checked
+    requires { ⌜ (from ≤ to) × (to ≤ length (now b)) ⌝ }
+    ensures { λ r. ⌜ r ≡ placed n (treeCheck (part (now (b .entry)) from (to - from)) treeLimit 6) ⌝ }
+{
+    in_frame(n, tree(&b[from..to], TREE_LIMIT, 6))
+}
+
+// The step count at a place and the steps behind it.
+fn steps_checked(b: &[u16], n: usize, at: usize) -> Checked
+    ensures { λ r. ⌜ r ≡ stepsCheck (now (b .entry)) n at ⌝ }
+{
+    match counted(b, n, at, STEP_LIMIT) {
+        Checked::Fine => {
+            let count = word(b, at);
+            steps_part(b, n, at + 1, at + 1 + 2 * count)
+        }
+        Checked::Refused(r) => Checked::Refused(r),
+    }
+}
+
+// The node count at a place and the nodes behind it.
+fn nodes_checked(b: &[u16], n: usize, at: usize) -> Checked
+    ensures { λ r. ⌜ r ≡ nodesCheck (now (b .entry)) n at ⌝ }
+{
+    match counted(b, n, at, TREE_LIMIT) {
+        Checked::Fine => {
+            let count = word(b, at);
+            nodes_part(b, n, at + 1, at + 1 + 2 * count)
+        }
+        Checked::Refused(r) => Checked::Refused(r),
+    }
+}
+
+// What stands behind the steps of a frame of kind k.
+fn rest_checked(b: &[u16], n: usize, k: usize, at: usize) -> Checked
+    requires { ⌜ at < length (now b) ⌝ }
+    ensures { λ r. ⌜ r ≡ restCheck (now (b .entry)) n k at ⌝ }
+{
+    let steps = word(b, at + 1);
+    if k == 2 {
+        return nodes_checked(b, n, at + 2 + 2 * steps);
+    }
+    if k != 3 {
+        return Checked::Fine;
+    }
+    if steps <= 1 {
+        return refused(6, 6, n);
+    }
+    Checked::Fine
+}
+
+fn kind_right(k: usize) -> bool
+    ensures { λ r. ⌜ r ≡ kindRight k ⌝ }
+{
+    if k == 1 {
+        return true;
+    }
+    if k == 2 {
+        return true;
+    }
+    k == 3
+}
+
+// The steps of a frame, and what stands behind them.
+fn body_checked(b: &[u16], n: usize, k: usize, at: usize) -> Checked
+    requires { ⌜ at < length (now b) ⌝ }
+    ensures { λ r. ⌜ r ≡ (stepsCheck (now (b .entry)) n (at + 1) then restCheck (now (b .entry)) n k at) ⌝ }
+{
+    match steps_checked(b, n, at + 1) {
+        Checked::Fine => rest_checked(b, n, k, at),
+        Checked::Refused(r) => Checked::Refused(r),
+    }
+}
+
+// The checks of frame n at a place.
+fn frame_checked(b: &[u16], n: usize, at: usize) -> Checked
+    ensures { λ r. ⌜ r ≡ frameCheck (now (b .entry)) n at ⌝ }
+{
+    if FRAME_LIMIT <= n {
+        return refused(10, 6, n);
+    }
+    let k = word(b, at);
+    if !kind_right(k) {
+        return refused(8, 6, n);
+    }
+    body_checked(b, n, k, at)
+}
+
+// The frame at a place where one stands.
+fn frame_of(b: &[u16], at: usize) -> Frame
+    requires { ⌜ at < length (now b) ⌝ }
+    ensures { λ r. ⌜ r ≡ frameOf (now (b .entry)) at ⌝ }
+{
+    let kind = word(b, at);
+    let steps = word(b, at + 1);
+    let end = at + 2 + 2 * steps;
+    if kind != 2 {
+        return Frame {
+            kind,
+            from: at + 2,
+            steps,
+            nodes: 0,
+            next: end,
+        };
+    }
+    let nodes = word(b, end);
+    Frame {
+        kind,
+        from: at + 2,
+        steps,
+        nodes,
+        next: end + 1 + 2 * nodes,
+    }
+}
+
+// Frame n at a place of the batch, or its refusal.
+pub fn read_frame(b: &[u16], n: usize, at: usize) -> Framed
+    ensures { λ r. ⌜ r ≡ frameAt (now (b .entry)) n at ⌝ }
+{
+    match frame_checked(b, n, at) {
+        Checked::Fine => Framed::Found(frame_of(b, at)),
+        Checked::Refused(r) => Framed::Refused(r),
+    }
+}
