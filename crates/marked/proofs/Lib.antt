@@ -1,0 +1,3 @@
+-- The claim over the marked examples.
+pub mod Marked
+pub mod Named

@@ -1,0 +1,2 @@
+-- What a reader must believe of the marked examples.
+pub mod Marked
