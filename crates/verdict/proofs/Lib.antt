@@ -1,0 +1,9 @@
+-- Laws of the verdict.
+pub mod Branches
+pub mod Cells
+pub mod Choosing
+pub mod Tracing
+pub mod Climbing
+pub mod Writing
+pub mod Accepting
+pub mod Judging

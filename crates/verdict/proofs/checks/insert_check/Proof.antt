@@ -1,0 +1,37 @@
+-- The tables first, then the room.
+use Rattle.tables.proofs.Branches.{then-on, then-off}
+use Rattle.verdict.specs.Order.{insertCheck}
+use borrow.Author.Needs.{needs}
+use Rattle.verdict.proofs.checks.insert_check.Statement.{statement}
+use Rattle.verdict.proofs.checks.insert_check.Tie as tie
+
+-- src/checks.rt:80:11
+deep-insert-check-requires : tie.Need-deep-insert-check-requires
+deep-insert-check-requires c κs = search needs
+
+-- src/checks.rt:81:26
+enum-told : tie.Need-enum-told
+enum-told c = search needs
+
+-- src/checks.rt:81:26
+room-requires : tie.Need-room-requires
+room-requires c κs = search needs
+
+-- src/checks.rt:82:26
+enum-known-why : tie.Need-enum-known-why
+enum-known-why c = search needs
+
+-- src/checks.rt:77:1
+returns : tie.Need-returns
+unfolding insertCheck
+returns c = then-on _ (c .before .before .before .deep-insert-check .ensures) (c .before .enum-told .given .1) (c .room .ensures)
+
+-- src/checks.rt:77:1
+returns-2 : tie.Need-returns-2
+unfolding insertCheck
+returns-2 c = then-off _ (c .before .before .before .deep-insert-check .ensures) (c .before .why .given .1)
+
+pub insert-check-spec : {M : Type 1} → statement M
+insert-check-spec =
+    tie.close
+    (tie.spec deep-insert-check-requires enum-told room-requires enum-known-why returns returns-2)

@@ -1,0 +1,19 @@
+-- The check, and where it is fine the answer.
+use mathlib.Core.Path.{sym, _∙_}
+use Rattle.verdict.proofs.Accepting.{delete-bounded}
+use Rattle.verdict.proofs.Judging.{deeply-on, deeply-off}
+use borrow.Author.Needs.{needs}
+use Rattle.verdict.proofs.deep.deep_delete_verdict.Statement.{statement}
+use Rattle.verdict.proofs.deep.deep_delete_verdict.Tie as tie
+
+pub deep-delete-verdict-spec : {M : Type 1} → statement M
+deep-delete-verdict-spec =
+    tie.close
+    (tie.spec
+    (λ c κs. search needs)
+    (λ c. search needs)
+    (λ c κs. delete-bounded _ _ (sym (c .before .before .deep-delete-check .ensures) ∙ c .enum-told .given .1))
+    (λ c κs. search needs)
+    (λ c. search needs)
+    (λ c. deeply-on _ (c .before .before .before .before .deep-delete-check .ensures) _ (c .before .before .enum-told .given .1) (c .before .delete-deep .ensures) (c .yes-or-no .ensures))
+    (λ c. deeply-off _ (c .before .before .before .deep-delete-check .ensures) _ (c .before .why .given .1)))

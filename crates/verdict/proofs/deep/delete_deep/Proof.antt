@@ -1,0 +1,18 @@
+-- A node conflict, or an update point below.
+use Rattle.verdict.proofs.Judging.{conflict-deep, clear-deep}
+use Rattle.verdict.specs.Verdict.{deleteDeep}
+use borrow.Author.Needs.{needs}
+use Rattle.verdict.proofs.deep.delete_deep.Statement.{statement}
+use Rattle.verdict.proofs.deep.delete_deep.Tie as tie
+
+pub delete-deep-spec : {M : Type 1} → statement M
+unfolding deleteDeep
+delete-deep-spec =
+    tie.close
+    (tie.spec
+    (λ c κs. search needs)
+    (λ c. search needs)
+    (λ c κs. search needs)
+    (λ c. conflict-deep _ _ _ _ (c .before .before .delete-way .ensures) (c .if1 .taken))
+    (λ c κs. search needs)
+    (λ c. clear-deep _ _ _ _ (c .before .before .before .delete-way .ensures) (c .before .if1 .left) (c .touching .ensures)))

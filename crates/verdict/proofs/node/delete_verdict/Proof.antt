@@ -1,0 +1,20 @@
+-- The check, and where it is fine the way.
+use mathlib.Core.Path.{sym, _∙_}
+use Rattle.verdict.proofs.Accepting.{delete-bounded, delete-deep, delete-room}
+use Rattle.verdict.proofs.Judging.{judged-on, judged-off}
+use borrow.Author.Needs.{needs}
+use Rattle.verdict.proofs.node.delete_verdict.Statement.{statement}
+use Rattle.verdict.proofs.node.delete_verdict.Tie as tie
+
+pub delete-verdict-spec : {M : Type 1} → statement M
+delete-verdict-spec =
+    tie.close
+    (tie.spec
+    (λ c κs. search needs)
+    (λ c. search needs)
+    (λ c κs. let fine = sym (c .before .before .before .delete-check .ensures) ∙ c .before .enum-told .given .1 in (delete-bounded _ _ (delete-deep _ _ _ fine), delete-room _ _ _ fine))
+    (λ c κs. search needs)
+    (λ c. search needs)
+    (λ c. search needs)
+    (λ c. search judged-on)
+    (λ c. judged-off _ (c .before .before .before .delete-check .ensures) _ _ (c .before .why .given .1)))

@@ -1,0 +1,20 @@
+-- The check, and where it is fine the way.
+use mathlib.Core.Path.{sym, _∙_}
+use Rattle.verdict.proofs.Accepting.{insert-bounded, insert-fitting, insert-deep, insert-room}
+use Rattle.verdict.proofs.Judging.{judged-on, judged-off}
+use borrow.Author.Needs.{needs}
+use Rattle.verdict.proofs.node.insert_verdict.Statement.{statement}
+use Rattle.verdict.proofs.node.insert_verdict.Tie as tie
+
+pub insert-verdict-spec : {M : Type 1} → statement M
+insert-verdict-spec =
+    tie.close
+    (tie.spec
+    (λ c κs. search needs)
+    (λ c. search needs)
+    (λ c κs. let fine = sym (c .before .before .before .insert-check .ensures) ∙ c .before .enum-told .given .1 in let deep = insert-deep _ _ _ _ fine in (insert-bounded _ _ _ deep, (insert-fitting _ _ _ deep, insert-room _ _ _ _ fine)))
+    (λ c κs. search needs)
+    (λ c. search needs)
+    (λ c. search needs)
+    (λ c. search judged-on)
+    (λ c. judged-off _ (c .before .before .before .insert-check .ensures) _ _ (c .before .why .given .1)))

@@ -1,0 +1,7 @@
+-- What a reader must believe of the verdicts is Order and Verdict; the others are how they are found, and need not be believed.
+pub mod Order
+pub mod Verdict
+pub mod Cells
+pub mod Tracing
+pub mod Climbing
+pub mod Writing

@@ -1,0 +1,68 @@
+// Moves from one pair of states to the next, and how many labels they take.
+use tables::words::first_word;
+ghost use Prim.Native.Nat.{_<_, pred};
+ghost use mathlib.Core.Path.{_≡_};
+ghost use Rattle.selection.specs.Ways.{stays};
+ghost use Rattle.conflict.specs.Meeting.{sooner, least, onward};
+ghost use Rattle.tables.specs.Limits.{wordLimit};
+
+// Whether state i may stay.
+pub fn staying(p: &[u16], below: bool, i: usize) -> bool
+    ensures { λ r. ⌜ r ≡ stays (now (p .entry)) below i ⌝ }
+{
+    let n = p.len() / 2;
+    if n <= i {
+        return below;
+    }
+    if n <= i + 1 {
+        return below;
+    }
+    first_word(p, i + 1) == 2
+}
+
+// Of two numbers, 0 for none: whether the first is present, and the second is not or is no less.
+pub fn is_sooner(m: usize, n: usize) -> bool
+    ensures { λ r. ⌜ r ≡ sooner m n ⌝ }
+{
+    if m == 0 {
+        return false;
+    }
+    if n == 0 {
+        return true;
+    }
+    m <= n
+}
+
+// The least that is present.
+pub fn least_of(m: usize, n: usize) -> usize
+    ensures { λ r. ⌜ r ≡ least m n ⌝ }
+{
+    if is_sooner(m, n) {
+        return m;
+    }
+    n
+}
+
+// One more, by a move that may be made.
+pub fn one_more(may: bool, n: usize) -> usize
+    requires { ⌜ n < wordLimit ⌝ }
+    ensures { λ r. ⌜ r ≡ onward may n ⌝ }
+{
+    if !may {
+        return 0;
+    }
+    if n == 0 {
+        return 0;
+    }
+    n + 1
+}
+
+// The state before i.
+pub fn earlier(i: usize) -> usize
+    ensures { λ r. ⌜ r ≡ pred i ⌝ }
+{
+    if i == 0 {
+        return 0;
+    }
+    i - 1
+}

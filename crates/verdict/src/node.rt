@@ -1,0 +1,49 @@
+// The node verdict: whether a read and an update conflict, with a smallest witness.
+use crate::checks::delete_check;
+use crate::checks::insert_check;
+use crate::ways::delete_way;
+use crate::ways::insert_way;
+use tables::refusal::Checked;
+use tables::refusal::Refusal;
+ghost use mathlib.Core.Path.{_≡_};
+ghost use lib.ListN.{length};
+ghost use Rattle.conflict.specs.Crossing.{deleteWay, insertWay};
+ghost use Rattle.verdict.specs.Order.{deleteCheck, insertCheck};
+ghost use Rattle.verdict.specs.Verdict.{foundOf, Judged};
+
+// Refused; no conflict; or a conflict, with the number of nodes of the witness written.
+pub enum Verdict {
+    Refused(Refusal),
+    Clear,
+    Conflict(usize),
+}
+
+// A conflict with a witness of n nodes, none where n is 0.
+fn found(n: usize) -> Verdict
+    ensures { λ v. ⌜ v ≡ foundOf n ⌝ }
+{
+    if n == 0 {
+        return Verdict::Clear;
+    }
+    Verdict::Conflict(n)
+}
+
+// A read and a delete.
+pub fn delete_verdict(r: &[u16], p: &[u16], out: &mut [u16]) -> Verdict
+    ensures { λ v. ⌜ Judged (deleteCheck (now (r .entry)) (now (p .entry)) (length (now (out .entry)))) (deleteWay (now (r .entry)) (now (p .entry))) (now (out .entry)) (now (out .exit)) v ⌝ }
+{
+    match delete_check(r, p, out.len()) {
+        Checked::Fine => found(delete_way(r, p, out)),
+        Checked::Refused(why) => Verdict::Refused(why),
+    }
+}
+
+// A read and an insert of the tree x.
+pub fn insert_verdict(r: &[u16], p: &[u16], x: &[u16], out: &mut [u16]) -> Verdict
+    ensures { λ v. ⌜ Judged (insertCheck (now (r .entry)) (now (p .entry)) (now (x .entry)) (length (now (out .entry)))) (insertWay (now (r .entry)) (now (p .entry)) (now (x .entry))) (now (out .entry)) (now (out .exit)) v ⌝ }
+{
+    match insert_check(r, p, x, out.len()) {
+        Checked::Fine => found(insert_way(r, p, x, out)),
+        Checked::Refused(why) => Verdict::Refused(why),
+    }
+}
