@@ -30,3 +30,7 @@ frameLimit = 128
 
 abbrev pub batchLimit : ℕ
 batchLimit = 16384
+
+-- digits of a line
+abbrev pub digitLimit : ℕ
+digitLimit = 2572

@@ -18,3 +18,6 @@ pub const PLAIN_NODES: usize = 16;
 pub const FRAME_LIMIT: usize = 128;
 
 pub const BATCH_LIMIT: usize = 16384;
+
+// Digits of a line.
+pub const DIGIT_LIMIT: usize = 2572;

@@ -1,0 +1,4 @@
+-- Laws of lines.
+pub mod Digits
+pub mod Promise
+pub mod Returning
