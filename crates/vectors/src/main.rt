@@ -3,6 +3,7 @@
 mod documents;
 mod patterns;
 mod plains;
+mod reads;
 mod show;
 mod tables_of;
 mod trees;
@@ -12,4 +13,5 @@ fn main() {
     trees::run();
     documents::run();
     plains::run();
+    reads::run();
 }

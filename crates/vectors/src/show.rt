@@ -1,4 +1,6 @@
 // A line for each case: its name, then what was answered.
+ghost use Prim.Native.Nat.{_≤_};
+ghost use lib.ListN.{length};
 use libc::STDOUT_FILENO;
 use tables::refusal::Checked;
 use tables::refusal::Refusal;
@@ -43,6 +45,47 @@ fn all_bytes(bytes: &[u8]) {
         byte_at(bytes, i);
         i += 1;
     }
+}
+
+fn word_at(words: &[u16], i: usize) {
+    text(b" ");
+    number(tables::words::word(words, i));
+}
+
+fn all_words(words: &[u16]) {
+    let mut i = 0;
+    while i < words.len() {
+        word_at(words, i);
+        i += 1;
+    }
+}
+
+// The words of a table, a space before each.
+pub fn table(words: &[u16]) {
+    text(b"  words");
+    all_words(words);
+    text(b"\n");
+}
+
+// How many bytes of a row are 1.
+fn ones(bytes: &[u8]) -> usize
+    ensures { λ r. ⌜ r ≤ length (now (bytes .entry)) ⌝ }
+{
+    let mut n = 0;
+    let mut i = 0;
+    while i < bytes.len() {
+        if bytes[i] == 1 {
+            n += 1;
+        }
+        i += 1;
+    }
+    n
+}
+
+pub fn counted(bytes: &[u8]) {
+    text(b"  ones ");
+    number(ones(bytes));
+    text(b"\n");
 }
 
 // The bytes of a row, a space before each.
