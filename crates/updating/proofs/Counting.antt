@@ -1,0 +1,50 @@
+-- Counting in rising number, one number a turn.
+use Prim.Native.Nat.{ℕ, zero, suc, _+_, _<_, _≤_}
+use mathlib.Core.Path.{_≡_, refl, _∙_}
+use mathlib.Core.Bool.{Bool, true, false, cond}
+use mathlib.Core.List.{List}
+use native.Mathlib.Numerals.{add-one}
+use native.Mathlib.Omega.{arith}
+use lib.ListN.{getD}
+use Rattle.selection.specs.Lists.{rising, count}
+use Rattle.updating.specs.Asking.{chosen, ticked}
+
+module _ (f : ℕ → Bool) where
+  pub count-start : 0 ≡ count f 0
+  unfolding count
+  count-start = refl
+
+  -- at most as many as there are numbers
+  pub count-most : (n : ℕ) → count f n ≤ n
+  unfolding count
+  count-most zero = omega arith
+  count-most (suc n) = go (f n) (count-most n)
+    where
+      go : (b : Bool) → count f n ≤ n → cond b (suc (count f n)) (count f n) ≤ suc n
+      go true h = omega arith
+      go false h = omega arith
+
+  module _ {n : ℕ} (v : ℕ) (e : n ≡ count f v) where
+    pub count-on : {one : ℕ} → one ≡ cond (f v) 1 0 → n + one ≡ count f (v + 1)
+    unfolding count
+    count-on {one} h = rw add-one (go (f v) h)
+      where
+        go : (b : Bool) → one ≡ cond b 1 0 → n + one ≡ cond b (suc (count f v)) (count f v)
+        go true w = omega arith
+        go false w = omega arith
+
+    pub count-end : (used : ℕ) → v ≤ used → used ≤ v → n ≡ count f used
+    count-end used h l =
+        let same : used ≡ v = omega arith in
+        rw same e
+
+-- a row's byte of 1 counts
+pub chosen-on : (row : List ℕ) (v : ℕ) {n b one : ℕ} → n ≡ count (chosen row) v → b ≡ getD row v 0 → one ≡ ticked b → n + one ≡ count (chosen row) (v + 1)
+unfolding chosen ticked
+chosen-on row v e q w = count-on (chosen row) v e (w ∙ rw q)
+
+-- tests that agree below n list the same numbers
+pub rising-ext : (f g : ℕ → Bool) (n : ℕ) → ((i : ℕ) → i < n → f i ≡ g i) → rising f n ≡ rising g n
+unfolding rising
+rising-ext f g zero h = refl
+rising-ext f g (suc n) h = rw (rising-ext f g n (λ i l. h i (omega arith)), h n (omega arith))

@@ -1,0 +1,48 @@
+-- Delete and insert: the order of their checks, what they answer, and what the lent tables hold after them.
+use Prim.Native.Nat.{ℕ, _+_, _*_}
+use mathlib.Core.Path.{_≡_}
+use mathlib.Core.List.{List}
+use lib.Dec.{ltb}
+use Rattle.tables.specs.Limits.{stepLimit, treeLimit}
+use Rattle.tables.specs.Words.{steps, nodes}
+use Rattle.tables.specs.Documents.{Doc}
+use Rattle.tables.specs.Checks.{_then_, test, refuse, documentCheck, patternCheck, treeCheck}
+use Rattle.tables.specs.declared.refusal.Checked.{Checked}
+use Rattle.tables.specs.declared.refusal.Checked.the-variants.{Fine, Refused}
+use Rattle.selection.specs.Operations.{deleted, removed, inserted, copies, fits}
+use Rattle.reading.specs.Reading.{written}
+use Rattle.updating.specs.declared.delete.Deleted.{Deleted}
+use Rattle.updating.specs.declared.delete.Deleted.the-variants.{Removed, Refused as NotDeleted}
+use Rattle.updating.specs.declared.insert.Inserted.{Inserted}
+use Rattle.updating.specs.declared.insert.Inserted.the-variants.{Copied, Refused as NotInserted}
+
+-- a delete: the document, then the pattern, then 6 when it has one step
+unfoldable pub deleteCheck : List ℕ → Doc → Checked
+deleteCheck p d =
+    documentCheck d then patternCheck p stepLimit 2 then test (ltb 1 (steps p)) (refuse 6 2 0)
+
+-- an insert: the document, then the pattern, then the inserted tree, then 11 when there is no room
+unfoldable pub insertCheck : List ℕ → List ℕ → Doc → Checked
+insertCheck p x d =
+    documentCheck d then patternCheck p stepLimit 2 then treeCheck x treeLimit 3 then test (fits p x d) (refuse 11 4 0)
+
+-- the refusal, or the number of nodes newly removed
+abbrev pub deleteAnswer : Checked → ℕ → Deleted
+deleteAnswer Fine n = Removed n
+deleteAnswer (Refused r) n = NotDeleted r
+
+-- the refusal, or the number of copies and the new used count
+abbrev pub insertAnswer : Checked → ℕ → ℕ → Inserted
+insertAnswer Fine n used = Copied n used
+insertAnswer (Refused r) n used = NotInserted r
+
+-- the answer and the marks of a delete; a refusal changes no mark
+pub record Delete (p : List ℕ) (d : Doc) (before after : List ℕ) (answer : Deleted) : Type 0 where
+  pub answered : answer ≡ deleteAnswer (deleteCheck p d) (removed p d)
+  pub marks : after ≡ written (deleteCheck p d) (deleted p d .marks) before
+
+-- the answer and the tables of an insert; a refusal changes neither
+pub record Insert (p x : List ℕ) (d : Doc) (rows₀ marks₀ rows₁ marks₁ : List ℕ) (answer : Inserted) : Type 0 where
+  pub answered : answer ≡ insertAnswer (insertCheck p x d) (copies p d) (d .used + copies p d * nodes x)
+  pub rows : rows₁ ≡ written (insertCheck p x d) (inserted p x d .rows) rows₀
+  pub marks : marks₁ ≡ written (insertCheck p x d) (inserted p x d .marks) marks₀
