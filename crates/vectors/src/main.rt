@@ -1,6 +1,8 @@
 // Run vectors: every refusal at its edge, and what each call leaves in the buffers lent to it. What they should print is in `stdout`,
 // worked out from document 01.
+mod deletes;
 mod documents;
+mod inserts;
 mod patterns;
 mod plains;
 mod reads;
@@ -14,4 +16,6 @@ fn main() {
     documents::run();
     plains::run();
     reads::run();
+    deletes::run();
+    inserts::run();
 }

@@ -4,6 +4,8 @@ ghost use lib.ListN.{length};
 use libc::STDOUT_FILENO;
 use tables::refusal::Checked;
 use tables::refusal::Refusal;
+use updating::delete::Deleted;
+use updating::insert::Inserted;
 
 pub fn text(s: &[u8]) {
     io::write_all(STDOUT_FILENO, s);
@@ -27,6 +29,38 @@ pub fn checked(name: &[u8], c: Checked) {
     match c {
         Checked::Fine => text(b": fine"),
         Checked::Refused(r) => {
+            text(b": ");
+            refusal(r);
+        }
+    }
+    text(b"\n");
+}
+
+pub fn deleted(name: &[u8], d: Deleted) {
+    text(name);
+    match d {
+        Deleted::Removed(n) => {
+            text(b": removed ");
+            number(n);
+        }
+        Deleted::Refused(r) => {
+            text(b": ");
+            refusal(r);
+        }
+    }
+    text(b"\n");
+}
+
+pub fn inserted(name: &[u8], i: Inserted) {
+    text(name);
+    match i {
+        Inserted::Copied(n, used) => {
+            text(b": copies ");
+            number(n);
+            text(b" used ");
+            number(used);
+        }
+        Inserted::Refused(r) => {
             text(b": ");
             refusal(r);
         }
