@@ -5,9 +5,10 @@ use mathlib.Core.List.{List}
 use native.Mathlib.Omega.{arith}
 use lib.Dec.{ltb, leb}
 use lib.ListN.{length}
-use borrow.Author.Tests.{lt-ltb, le-ltb, le-leb, lt-leb, leb-true}
+use borrow.Author.Tests.{lt-ltb, le-ltb, le-leb, lt-leb, leb-true, ltb-true}
 use Rattle.tables.specs.Limits.{stepLimit, treeLimit}
 use Rattle.tables.specs.Words.{steps, nodes}
+use Rattle.tables.specs.Patterns.{Pattern}
 use Rattle.tables.specs.declared.refusal.Checked.{Checked}
 use Rattle.tables.specs.declared.refusal.Checked.the-variants.{Fine}
 use Rattle.tables.specs.Checks.{refuse, test, each, sizeCheck, patternCheck, nodeCheck, treeCheck}
@@ -43,40 +44,66 @@ pub room-fine : (r p : List ℕ) (words : ℕ) → roomCheck r p words ≡ Fine 
 unfolding roomCheck
 room-fine r p words e = leb-true (needed r p) words (held (leb (needed r p) words) _ e)
 
--- accepted patterns are bounded
-patterns-bounded : (r p : List ℕ) → patternsCheck r p ≡ Fine → Bounded r p
-unfolding patternsCheck
-patterns-bounded r p e =
-    let read = then-first (patternCheck r stepLimit 1) (patternCheck p stepLimit 2) e in
-    let update = then-second (patternCheck r stepLimit 1) (patternCheck p stepLimit 2) e in
-    record {
-      reads-some = accepted-pattern r stepLimit 1 read .some;
-      reads = accepted-steps r stepLimit 1 read;
-      updates-some = accepted-pattern p stepLimit 2 update .some;
-      updates = accepted-steps p stepLimit 2 update;
-    }
+-- accepted patterns are patterns, and bounded
+module _ (r p : List ℕ) (e : patternsCheck r p ≡ Fine) where
+  read-fine : patternCheck r stepLimit 1 ≡ Fine
+  unfolding patternsCheck
+  read-fine = then-first (patternCheck r stepLimit 1) (patternCheck p stepLimit 2) e
+
+  update-fine : patternCheck p stepLimit 2 ≡ Fine
+  unfolding patternsCheck
+  update-fine = then-second (patternCheck r stepLimit 1) (patternCheck p stepLimit 2) e
+
+  pub patterns-read : Pattern r
+  patterns-read = accepted-pattern r stepLimit 1 read-fine
+
+  pub patterns-update : Pattern p
+  patterns-update = accepted-pattern p stepLimit 2 update-fine
+
+  patterns-bounded : Bounded r p
+  patterns-bounded =
+      record {
+        reads-some = patterns-read .some;
+        reads = accepted-steps r stepLimit 1 read-fine;
+        updates-some = patterns-update .some;
+        updates = accepted-steps p stepLimit 2 update-fine;
+      }
 
 module _ (r p : List ℕ) where
-  pub delete-bounded : deepDeleteCheck r p ≡ Fine → Bounded r p
-  unfolding deepDeleteCheck
-  delete-bounded e = patterns-bounded r p (then-first (patternsCheck r p) (test (ltb 1 (steps p)) (refuse 6 2 0)) e)
+  module _ (e : deepDeleteCheck r p ≡ Fine) where
+    pub delete-patterns : patternsCheck r p ≡ Fine
+    unfolding deepDeleteCheck
+    delete-patterns = then-first (patternsCheck r p) (test (ltb 1 (steps p)) (refuse 6 2 0)) e
+
+    pub delete-bounded : Bounded r p
+    delete-bounded = patterns-bounded r p delete-patterns
+
+    pub delete-two : 1 < steps p
+    unfolding deepDeleteCheck
+    delete-two = ltb-true 1 (steps p) (held (ltb 1 (steps p)) _ (then-second (patternsCheck r p) (test (ltb 1 (steps p)) (refuse 6 2 0)) e))
 
   module _ (x : List ℕ) (e : deepInsertCheck r p x ≡ Fine) where
-    pub insert-bounded : Bounded r p
+    pub insert-patterns : patternsCheck r p ≡ Fine
     unfolding deepInsertCheck
-    insert-bounded = patterns-bounded r p (then-first (patternsCheck r p) (treeCheck x treeLimit 3) e)
+    insert-patterns = then-first (patternsCheck r p) (treeCheck x treeLimit 3) e
+
+    pub insert-bounded : Bounded r p
+    insert-bounded = patterns-bounded r p insert-patterns
+
+    pub insert-tree : treeCheck x treeLimit 3 ≡ Fine
+    unfolding deepInsertCheck
+    insert-tree = then-second (patternsCheck r p) (treeCheck x treeLimit 3) e
 
     -- so is an accepted tree, and its parents fall
     pub insert-fitting : Fitting r x
-    unfolding deepInsertCheck treeCheck
+    unfolding treeCheck
     insert-fitting =
-        let tree = then-second (patternsCheck r p) (treeCheck x treeLimit 3) e in
         record {
           some = insert-bounded .reads-some;
           reads = insert-bounded .reads;
-          root = accepted-some x treeLimit 3 tree;
-          most = accepted-nodes x treeLimit 3 tree;
-          falls = node-falls x 3 (nodes x) (then-second (sizeCheck (length x) treeLimit 3) (each (nodeCheck x 3) 0 (nodes x)) tree);
+          root = accepted-some x treeLimit 3 insert-tree;
+          most = accepted-nodes x treeLimit 3 insert-tree;
+          falls = node-falls x 3 (nodes x) (then-second (sizeCheck (length x) treeLimit 3) (each (nodeCheck x 3) 0 (nodes x)) insert-tree);
         }
 
   -- the same with an output, which then has room

@@ -1,10 +1,10 @@
 -- From the number of a way and the check to the verdict.
-use Prim.Native.Nat.{ℕ, _<_, _≤_}
+use Prim.Native.Nat.{ℕ, _*_, _<_, _≤_}
 use mathlib.Core.Path.{_≡_}
 use mathlib.Core.Bool.{Bool, true, _||_, cond}
-use mathlib.Core.List.{List}
+use mathlib.Core.List.{List, _++_}
 use lib.Dec.{ltb}
-use lib.ListN.{length}
+use lib.ListN.{length, drop}
 use borrow.Author.Tests.{eq-eqb, ne-eqb, lt-ltb, le-ltb}
 use Rattle.tables.specs.declared.refusal.Refusal.{Refusal}
 use Rattle.tables.specs.declared.refusal.Checked.{Checked}
@@ -13,8 +13,27 @@ use Rattle.verdict.specs.declared.node.Verdict.{Verdict}
 use Rattle.verdict.specs.declared.node.Verdict.the-variants.{Clear, Conflict, Refused as NotJudged}
 use Rattle.verdict.specs.declared.deep.Deeply.{Deeply}
 use Rattle.verdict.specs.declared.deep.Deeply.the-variants.{No, Yes, Refused as NotDeep}
-use Rattle.verdict.specs.Verdict.{foundOf, verdictOf, outputOf, Judged, deeplyOf}
+use Rattle.conflict.specs.Crossing.{chain}
+use Rattle.verdict.specs.Verdict.{foundOf}
 use Rattle.verdict.specs.Writing.{Written}
+
+-- the verdict of a check and a way, and the output after it: the way's chain at the front, where there is one; a refusal changes nothing
+unfoldable pub verdictOf : Checked → ℕ → Verdict
+verdictOf Fine n = foundOf n
+verdictOf (Refused why) n = NotJudged why
+
+unfoldable pub outputOf : Checked → List ℕ → List ℕ → List ℕ
+outputOf Fine way out = chain way ++ drop (2 * length way) out
+outputOf (Refused why) way out = out
+
+pub record Judged (check : Checked) (way before after : List ℕ) (answer : Verdict) : Type 0 where
+  pub says : answer ≡ verdictOf check (length way)
+  pub writes : after ≡ outputOf check way before
+
+-- the deep verdict of a check and a test
+unfoldable pub deeplyOf : Checked → Bool → Deeply
+deeplyOf Fine b = cond b Yes No
+deeplyOf (Refused why) b = NotDeep why
 
 pub found-none : (n : ℕ) → n ≡ 0 → Clear ≡ foundOf n
 unfolding foundOf

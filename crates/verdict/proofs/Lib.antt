@@ -7,3 +7,4 @@ pub mod Climbing
 pub mod Writing
 pub mod Accepting
 pub mod Judging
+pub mod Promise

@@ -1,5 +1,6 @@
--- What a reader must believe of the verdicts is Order and Verdict; the others are how they are found, and need not be believed.
+-- What a reader must believe of the verdicts is Order and Promise; the others are how they are found, and need not be believed.
 pub mod Order
+pub mod Promise
 pub mod Verdict
 pub mod Cells
 pub mod Tracing

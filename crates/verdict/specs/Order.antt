@@ -6,6 +6,7 @@ use Rattle.tables.specs.Limits.{stepLimit, treeLimit}
 use Rattle.tables.specs.Words.{steps}
 use Rattle.tables.specs.declared.refusal.Checked.{Checked}
 use Rattle.tables.specs.Checks.{refuse, _then_, test, patternCheck, treeCheck}
+use Rattle.conflict.specs.Conflict.{Update, delete, insert}
 
 -- the words that the output must have: two a node of the longest witness
 abbrev pub needed : List ℕ → List ℕ → ℕ
@@ -32,3 +33,12 @@ deleteCheck r p words = deepDeleteCheck r p then roomCheck r p words
 
 unfoldable pub insertCheck : List ℕ → List ℕ → List ℕ → ℕ → Checked
 insertCheck r p x words = deepInsertCheck r p x then roomCheck r p words
+
+-- both by the update
+abbrev pub deepCheck : List ℕ → Update → Checked
+deepCheck r (delete p) = deepDeleteCheck r p
+deepCheck r (insert p x) = deepInsertCheck r p x
+
+abbrev pub verdictCheck : List ℕ → Update → ℕ → Checked
+verdictCheck r (delete p) words = deleteCheck r p words
+verdictCheck r (insert p x) words = insertCheck r p x words

@@ -12,10 +12,11 @@ ghost use mathlib.Core.Path.{_≡_};
 ghost use mathlib.Core.Bool.{cond};
 ghost use lib.ListN.{length};
 ghost use Rattle.tables.specs.Limits.{stepLimit};
+ghost use Rattle.conflict.specs.Conflict.{delete, insert};
 ghost use Rattle.verdict.specs.declared.deep.Deeply.the-variants.{No, Yes};
 ghost use Rattle.verdict.specs.Climbing.{Fitting};
-ghost use Rattle.verdict.specs.Order.{deepDeleteCheck, deepInsertCheck};
-ghost use Rattle.verdict.specs.Verdict.{deleteDeep, insertDeep, deeplyOf};
+ghost use Rattle.verdict.specs.Promise.{DeepVerdict};
+ghost use Rattle.verdict.specs.Verdict.{deleteDeep, insertDeep};
 ghost use Rattle.verdict.specs.Writing.{Bounded};
 
 // Refused, no or yes.
@@ -72,7 +73,7 @@ fn insert_deep(r: &[u16], p: &[u16], x: &[u16]) -> bool
 
 // A read and a delete.
 pub fn deep_delete_verdict(r: &[u16], p: &[u16]) -> Deeply
-    ensures { λ v. ⌜ v ≡ deeplyOf (deepDeleteCheck (now (r .entry)) (now (p .entry))) (deleteDeep (now (r .entry)) (now (p .entry))) ⌝ }
+    ensures { λ v. ⌜ DeepVerdict (now (r .entry)) (delete (now (p .entry))) v ⌝ }
 {
     match deep_delete_check(r, p) {
         Checked::Fine => yes_or_no(delete_deep(r, p)),
@@ -82,7 +83,7 @@ pub fn deep_delete_verdict(r: &[u16], p: &[u16]) -> Deeply
 
 // A read and an insert of the tree x.
 pub fn deep_insert_verdict(r: &[u16], p: &[u16], x: &[u16]) -> Deeply
-    ensures { λ v. ⌜ v ≡ deeplyOf (deepInsertCheck (now (r .entry)) (now (p .entry)) (now (x .entry))) (insertDeep (now (r .entry)) (now (p .entry)) (now (x .entry))) ⌝ }
+    ensures { λ v. ⌜ DeepVerdict (now (r .entry)) (insert (now (p .entry)) (now (x .entry))) v ⌝ }
 {
     match deep_insert_check(r, p, x) {
         Checked::Fine => yes_or_no(insert_deep(r, p, x)),

@@ -6,10 +6,9 @@ use crate::ways::insert_way;
 use tables::refusal::Checked;
 use tables::refusal::Refusal;
 ghost use mathlib.Core.Path.{_≡_};
-ghost use lib.ListN.{length};
-ghost use Rattle.conflict.specs.Crossing.{deleteWay, insertWay};
-ghost use Rattle.verdict.specs.Order.{deleteCheck, insertCheck};
-ghost use Rattle.verdict.specs.Verdict.{foundOf, Judged};
+ghost use Rattle.conflict.specs.Conflict.{delete, insert};
+ghost use Rattle.verdict.specs.Promise.{NodeVerdict};
+ghost use Rattle.verdict.specs.Verdict.{foundOf};
 
 // Refused; no conflict; or a conflict, with the number of nodes of the witness written.
 pub enum Verdict {
@@ -30,7 +29,7 @@ fn found(n: usize) -> Verdict
 
 // A read and a delete.
 pub fn delete_verdict(r: &[u16], p: &[u16], out: &mut [u16]) -> Verdict
-    ensures { λ v. ⌜ Judged (deleteCheck (now (r .entry)) (now (p .entry)) (length (now (out .entry)))) (deleteWay (now (r .entry)) (now (p .entry))) (now (out .entry)) (now (out .exit)) v ⌝ }
+    ensures { λ v. ⌜ NodeVerdict (now (r .entry)) (delete (now (p .entry))) (now (out .entry)) (now (out .exit)) v ⌝ }
 {
     match delete_check(r, p, out.len()) {
         Checked::Fine => found(delete_way(r, p, out)),
@@ -40,7 +39,7 @@ pub fn delete_verdict(r: &[u16], p: &[u16], out: &mut [u16]) -> Verdict
 
 // A read and an insert of the tree x.
 pub fn insert_verdict(r: &[u16], p: &[u16], x: &[u16], out: &mut [u16]) -> Verdict
-    ensures { λ v. ⌜ Judged (insertCheck (now (r .entry)) (now (p .entry)) (now (x .entry)) (length (now (out .entry)))) (insertWay (now (r .entry)) (now (p .entry)) (now (x .entry))) (now (out .entry)) (now (out .exit)) v ⌝ }
+    ensures { λ v. ⌜ NodeVerdict (now (r .entry)) (insert (now (p .entry)) (now (x .entry))) (now (out .entry)) (now (out .exit)) v ⌝ }
 {
     match insert_check(r, p, x, out.len()) {
         Checked::Fine => found(insert_way(r, p, x, out)),

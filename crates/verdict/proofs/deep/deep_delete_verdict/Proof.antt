@@ -2,6 +2,8 @@
 use mathlib.Core.Path.{sym, _∙_}
 use Rattle.verdict.proofs.Accepting.{delete-bounded}
 use Rattle.verdict.proofs.Judging.{deeply-on, deeply-off}
+use Rattle.verdict.proofs.Promise.{deep-delete-promise}
+use native.Mathlib.Omega.{arith}
 use borrow.Author.Needs.{needs}
 use Rattle.verdict.proofs.deep.deep_delete_verdict.Statement.{statement}
 use Rattle.verdict.proofs.deep.deep_delete_verdict.Tie as tie
@@ -15,5 +17,9 @@ deep-delete-verdict-spec =
     (λ c κs. delete-bounded _ _ (sym (c .before .before .deep-delete-check .ensures) ∙ c .enum-told .given .1))
     (λ c κs. search needs)
     (λ c. search needs)
-    (λ c. deeply-on _ (c .before .before .before .before .deep-delete-check .ensures) _ (c .before .before .enum-told .given .1) (c .before .delete-deep .ensures) (c .yes-or-no .ensures))
-    (λ c. deeply-off _ (c .before .before .before .deep-delete-check .ensures) _ (c .before .why .given .1)))
+    (λ c.
+    deep-delete-promise _ _ (λ i. omega (arith, c .before .before .before .before .before .before .shared-slice-known .given i)) (λ i. omega (arith, c .before .before .before .before .before .shared-slice-known2 .given i))
+    (deeply-on _ (c .before .before .before .before .deep-delete-check .ensures) _ (c .before .before .enum-told .given .1) (c .before .delete-deep .ensures) (c .yes-or-no .ensures)))
+    (λ c.
+    deep-delete-promise _ _ (λ i. omega (arith, c .before .before .before .before .before .shared-slice-known .given i)) (λ i. omega (arith, c .before .before .before .before .shared-slice-known2 .given i))
+    (deeply-off _ (c .before .before .before .deep-delete-check .ensures) _ (c .before .why .given .1))))

@@ -2,6 +2,8 @@
 use mathlib.Core.Path.{sym, _∙_}
 use Rattle.verdict.proofs.Accepting.{insert-bounded, insert-fitting}
 use Rattle.verdict.proofs.Judging.{deeply-on, deeply-off}
+use Rattle.verdict.proofs.Promise.{deep-insert-promise}
+use native.Mathlib.Omega.{arith}
 use borrow.Author.Needs.{needs}
 use Rattle.verdict.proofs.deep.deep_insert_verdict.Statement.{statement}
 use Rattle.verdict.proofs.deep.deep_insert_verdict.Tie as tie
@@ -15,5 +17,9 @@ deep-insert-verdict-spec =
     (λ c κs. let fine = sym (c .before .before .deep-insert-check .ensures) ∙ c .enum-told .given .1 in (insert-bounded _ _ _ fine, insert-fitting _ _ _ fine))
     (λ c κs. search needs)
     (λ c. search needs)
-    (λ c. deeply-on _ (c .before .before .before .before .deep-insert-check .ensures) _ (c .before .before .enum-told .given .1) (c .before .insert-deep .ensures) (c .yes-or-no .ensures))
-    (λ c. deeply-off _ (c .before .before .before .deep-insert-check .ensures) _ (c .before .why .given .1)))
+    (λ c.
+    deep-insert-promise _ _ _ (λ i. omega (arith, c .before .before .before .before .before .before .before .shared-slice-known .given i)) (λ i. omega (arith, c .before .before .before .before .before .before .shared-slice-known2 .given i)) (λ i. omega (arith, c .before .before .before .before .before .shared-slice-known3 .given i))
+    (deeply-on _ (c .before .before .before .before .deep-insert-check .ensures) _ (c .before .before .enum-told .given .1) (c .before .insert-deep .ensures) (c .yes-or-no .ensures)))
+    (λ c.
+    deep-insert-promise _ _ _ (λ i. omega (arith, c .before .before .before .before .before .before .shared-slice-known .given i)) (λ i. omega (arith, c .before .before .before .before .before .shared-slice-known2 .given i)) (λ i. omega (arith, c .before .before .before .before .shared-slice-known3 .given i))
+    (deeply-off _ (c .before .before .before .deep-insert-check .ensures) _ (c .before .why .given .1))))
