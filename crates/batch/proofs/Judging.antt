@@ -1,0 +1,49 @@
+-- From the verdict on an accepted read and update to whether they conflict.
+use Prim.Native.Nat.{ℕ, _+_, _*_, _-_}
+use mathlib.Core.Path.{_≡_, refl, sym, _∙_}
+use mathlib.Core.Bool.{Bool, true, false, false≢true}
+use mathlib.Core.List.{List}
+use mathlib.Core.Logic.{_↔_}
+use native.Mathlib.Omega.{arith}
+use lib.ListN.{length, take}
+use Rattle.tables.specs.Limits.{stepLimit}
+use Rattle.tables.specs.declared.refusal.Checked.the-variants.{Fine}
+use Rattle.conflict.specs.Conflict.{Update, delete, insert, Conflict}
+use Rattle.verdict.specs.Order.{roomCheck, deepDeleteCheck, deepInsertCheck, deleteCheck, insertCheck, verdictCheck}
+use Rattle.verdict.specs.Writing.{Bounded}
+use Rattle.verdict.specs.Promise.{NodeVerdict}
+use Rattle.verdict.proofs.Accepting.{room-long, delete-bounded, insert-bounded}
+use Rattle.verdict.specs.declared.node.Verdict.{Verdict}
+use Rattle.verdict.specs.declared.node.Verdict.the-variants as verdict
+
+-- the words of the longest witness
+abbrev pub longest : ℕ
+longest = 2 * (stepLimit + stepLimit - 1)
+
+-- what the code answers
+abbrev pub said : Verdict → Bool
+said (verdict.Refused why) = false
+said verdict.Clear = false
+said (verdict.Conflict n) = true
+
+-- where the verdict is not refused, it tells whether there is a conflict
+told : (r : List ℕ) (u : Update) (out after : List ℕ) (answer : Verdict) → verdictCheck r u (length out) ≡ Fine → NodeVerdict r u out after answer → (said answer ≡ true) ↔ Conflict r u
+told r u out after (verdict.Refused why) fine v =
+    let e = v .given in
+    let no : false ≡ true = cc in
+    absurd (false≢true no)
+told r u out after verdict.Clear fine v = ((λ e. absurd (false≢true e)), (λ c. absurd (v .none c)))
+told r u out after (verdict.Conflict n) fine v = ((λ e. record { tree = take (2 * n) after; shows = v .witness }), (λ c. refl))
+
+-- the verdict's output has room for every witness
+room : (r p : List ℕ) → Bounded r p → Fine ≡ roomCheck r p longest
+room r p bound = room-long r p longest (omega arith)
+
+module _ (r p out after : List ℕ) (answer : Verdict) (long : length out ≡ longest) where
+  pub delete-said : deepDeleteCheck r p ≡ Fine → NodeVerdict r (delete p) out after answer → (said answer ≡ true) ↔ Conflict r (delete p)
+  unfolding deleteCheck
+  delete-said e v = told r (delete p) out after answer (rw (e, long, ← room r p (delete-bounded r p e))) v
+
+  pub insert-said : (x : List ℕ) → deepInsertCheck r p x ≡ Fine → NodeVerdict r (insert p x) out after answer → (said answer ≡ true) ↔ Conflict r (insert p x)
+  unfolding insertCheck
+  insert-said x e v = told r (insert p x) out after answer (rw (e, long, ← room r p (insert-bounded r p x e))) v

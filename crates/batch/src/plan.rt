@@ -1,0 +1,63 @@
+// The plan of a batch: one word a frame.
+use crate::conflicts::conflicts;
+use crate::conflicts::frame_end;
+use crate::counting::checked;
+use tables::limits::FRAME_LIMIT;
+use tables::refusal::Refusal;
+use tables::words::word;
+ghost use lib.ListN.{length};
+ghost use Rattle.batch.specs.Batch.{batchOf, Written, Plan};
+ghost use Rattle.batch.specs.Walking.{Planning};
+
+// The number of frames, or a refusal.
+pub enum Planned {
+    Refused(Refusal),
+    Frames(usize),
+}
+
+// An update gets its number, a read its slot: the nearest earlier update that conflicts, looked for from the read backwards, or 0.
+fn write(b: &[u16], n: usize, out: &mut [u16])
+    requires { ⌜ Planning (now b) n (length (now out)) ⌝ }
+    ensures { λ _. ⌜ Written (batchOf (now (b .entry))) (now (out .entry)) (now (out .exit)) ⌝ }
+{
+    let mut places = [0; FRAME_LIMIT];
+    let mut updates = 0;
+    let mut at = 0;
+    let mut k = 0;
+    while k < n {
+        let here = at;
+        at = frame_end(b, here);
+        if word(b, here) != 1 {
+            places[updates] = here;
+            updates += 1;
+            out[k] = updates as u16;
+            k += 1;
+            continue;
+        }
+        let mut j = updates;
+        let slot = loop {
+            if j == 0 {
+                break 0;
+            }
+            if conflicts(b, here, places[j - 1]) {
+                break j;
+            }
+            j -= 1;
+        };
+        out[k] = slot as u16;
+        k += 1;
+    }
+}
+
+// The whole batch is checked before a word is written.
+pub fn plan(b: &[u16], out: &mut [u16]) -> Planned
+    ensures { λ r. ⌜ Plan (now (b .entry)) (now (out .entry)) (now (out .exit)) r ⌝ }
+{
+    match checked(b, out.len()) {
+        Planned::Refused(r) => Planned::Refused(r),
+        Planned::Frames(n) => {
+            write(b, n, out);
+            Planned::Frames(n)
+        }
+    }
+}
