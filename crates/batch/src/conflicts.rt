@@ -63,7 +63,7 @@ fn steps_end(b: &[u16], at: usize) -> usize
 }
 
 // Where a frame ends.
-pub fn frame_end(b: &[u16], at: usize) -> usize
+pub(crate) fn frame_end(b: &[u16], at: usize) -> usize
     requires { ⌜ Standing (now b) at ⌝ }
     ensures { λ r. ⌜ r ≡ endOf (now (b .entry)) at ⌝ }
 {
@@ -88,7 +88,7 @@ fn update_conflicts(r: &[u16], b: &[u16], at: usize) -> bool
 }
 
 // Whether the read at one place conflicts with the update at another.
-pub fn conflicts(b: &[u16], read: usize, update: usize) -> bool
+pub(crate) fn conflicts(b: &[u16], read: usize, update: usize) -> bool
     requires { ⌜ Standing (now b) read ⌝ }
     requires { ⌜ Updating (now b) update ⌝ }
     ensures { λ c. ⌜ (c ≡ true) ↔ Conflict (patternOf (now (b .entry)) read) (updateOf (now (b .entry)) update) ⌝ }

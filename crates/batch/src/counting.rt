@@ -44,7 +44,7 @@ fn counted(b: &[u16]) -> Planned
 }
 
 // An accepted batch, and a plan of so many words: refusal 7 where they are fewer than the frames.
-pub fn checked(b: &[u16], words: usize) -> Planned
+pub(crate) fn checked(b: &[u16], words: usize) -> Planned
     ensures { λ r. ⌜ r ≡ plannedOf (planCheck (now (b .entry)) words) (length (batchOf (now (b .entry)))) ⌝ }
 {
     match counted(b) {

@@ -1,14 +1,14 @@
 -- The branches of the code, held against those of the definitions, and what a fine count says.
 use Prim.Native.Nat.{ℕ, _+_, _-_, _*_, _/_, _<_, _≤_}
 use mathlib.Core.Path.{_≡_, refl, sym, _∙_, ap}
-use mathlib.Core.Bool.{Bool, true, false, _||_, cond, not, false≢true}
+use mathlib.Core.Bool.{Bool, true, false, not, false≢true}
 use mathlib.Core.List.{List}
 use native.Mathlib.Nat.{pos-of-ne-zero}
 use native.Mathlib.Decide.{decLt}
 use native.Mathlib.Omega.{arith}
 use lib.Dec.{eqb, ltb, leb}
 use lib.ListN.{length, getD}
-use borrow.Author.Tests.{eq-eqb, ne-eqb, lt-ltb, le-ltb, le-leb, lt-leb, ltb-true, leb-true}
+use borrow.Author.Tests.{ne-eqb, lt-ltb, le-ltb, le-leb, lt-leb, ltb-true, leb-true}
 use Rattle.tables.specs.Limits.{frameLimit}
 use Rattle.tables.specs.declared.refusal.Refusal.{Refusal}
 use Rattle.tables.specs.declared.refusal.Checked.{Checked}
@@ -18,9 +18,8 @@ use Rattle.tables.proofs.Branches.{then-on}
 use Rattle.tables.proofs.Outside.{outside}
 use Rattle.tables.proofs.Tests.{first-passed, first-failed}
 use Rattle.tables.proofs.Accepted.{held, then-first, then-second}
-use Rattle.frames.specs.Frames.{part, count, kind, treeAt, placed, countCheck, kindRight, stepsCheck, nodesCheck, restCheck, frameCheck, nodesOf, endOf, frameOf, frameAt}
+use Rattle.frames.specs.Frames.{part, count, kind, placed, countCheck, kindRight, stepsCheck, nodesCheck, restCheck, frameCheck, nodesOf, endOf, frameOf, frameAt}
 use Rattle.frames.specs.declared.Frame.{Frame}
-use Rattle.frames.specs.declared.Framed.{Framed}
 use Rattle.frames.specs.declared.Framed.the-variants as framed
 
 -- a refusal is placed in its frame

@@ -1,18 +1,16 @@
 -- The branches of the code on one digit, held against the definitions; a digit's value and its byte tell each other.
 use Prim.Native.Nat.{ℕ, _+_, _-_, _*_, _/_, _%_, _^_, _<_, _≤_}
-use mathlib.Core.Path.{_≡_, refl, sym, _∙_, ap}
-use mathlib.Core.Bool.{Bool, true, false, _&&_, cond}
+use mathlib.Core.Path.{_≡_, sym, _∙_}
 use mathlib.Core.List.{List}
 use native.Mathlib.Nat.{pos-of-ne-zero}
 use native.Mathlib.Decide.{decLe}
 use native.Mathlib.Omega.{arith}
-use lib.Dec.{eqb, ltb, leb}
 use lib.ListN.{length, getD}
-use borrow.Author.Tests.{lt-ltb, le-leb, lt-leb, ne-eqb, eq-eqb, leb-true}
+use borrow.Author.Tests.{lt-ltb, le-leb, lt-leb, ne-eqb, eq-eqb}
 use Rattle.tables.specs.Limits.{digitLimit}
 use Rattle.tables.specs.declared.refusal.Checked.{Checked}
-use Rattle.tables.specs.declared.refusal.Checked.the-variants.{Fine, Refused}
-use Rattle.tables.specs.Checks.{_then_, test, refuse, each}
+use Rattle.tables.specs.declared.refusal.Checked.the-variants.{Fine}
+use Rattle.tables.specs.Checks.{refuse, each}
 use Rattle.lines.specs.Lines.{digitOf, byteOf, characterCheck, lineCheck, wordAt, byteAt}
 
 module _ (c : ℕ) where

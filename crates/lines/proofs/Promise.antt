@@ -1,10 +1,9 @@
 -- From what the checks and the loops give to the promises of reading and writing a line; each promise fixes its answer and its buffer.
-use Prim.Native.Nat.{ℕ, _+_, _*_, _/_, _%_, _<_, _≤_}
+use Prim.Native.Nat.{ℕ, _*_, _/_, _%_, _≤_}
 use mathlib.Core.Path.{_≡_, refl, sym, _∙_, ap}
 use mathlib.Core.Bool.{_&&_}
 use mathlib.Core.List.{List, _++_}
 use native.Mathlib.Nat.{zero-add}
-use native.Mathlib.Omega.{arith}
 use lib.Dec.{eqb, ltb, leb}
 use lib.ListN.{length, getD, drop}
 use borrow.Author.Tests.{leb-true, eqb-true}

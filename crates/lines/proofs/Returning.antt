@@ -1,6 +1,6 @@
 -- Words that are written read back the same, and lines that are read are written back unchanged.
 use Prim.Native.Nat.{ℕ, _+_, _-_, _*_, _/_, _%_, _^_, _<_, _≤_}
-use mathlib.Core.Path.{_≡_, refl, sym, _∙_, ap}
+use mathlib.Core.Path.{_≡_, _∙_}
 use mathlib.Core.List.{List}
 use native.Mathlib.Nat.{add-zero}
 use native.Mathlib.Decide.{ℕ-discrete}
@@ -9,9 +9,8 @@ use lib.Dec.{lit<}
 use lib.ListN.{length, getD}
 use lib.Seq.{ext-getD}
 use Rattle.tables.specs.Limits.{wordLimit}
-use Rattle.selection.specs.Lists.{tab}
 use Rattle.selection.proofs.Lists.{length-tab, getD-tab}
-use Rattle.lines.specs.Lines.{digitOf, byteOf, wordAt, wordsOf, byteAt, lineOf, lineCheck, Digits}
+use Rattle.lines.specs.Lines.{digitOf, wordAt, wordsOf, byteAt, lineOf, lineCheck, Digits}
 use Rattle.tables.specs.declared.refusal.Checked.the-variants.{Fine}
 use Rattle.lines.proofs.Digits.{digit-byte, byte-digit}
 use Rattle.lines.proofs.Promise.{line-digits, line-whole}

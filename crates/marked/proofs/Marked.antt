@@ -1,24 +1,23 @@
 -- P1 to P15 hold: one test, computed over the whole list, and one law that turns it into the claim for each example.
 use Prim.Native.Nat.{ℕ, zero, suc, pred, _<_}
-use mathlib.Core.Path.{_≡_, refl, sym, _∙_, subst}
+use mathlib.Core.Path.{_≡_, refl, sym, _∙_}
 use mathlib.Core.Bool.{Bool, true, false, _&&_, _||_, not, false≢true}
 use mathlib.Core.List.{List, [], _∷_}
-use mathlib.Core.Logic.{_⊎_, inl, inr, ⊎-elim}
+use mathlib.Core.Logic.{inl, inr, ⊎-elim}
 use native.Mathlib.Omega.{arith}
-use lib.Dec.{eqb, ltb, leb}
-use lib.ListN.{length, getD}
+use lib.Dec.{eqb, ltb}
+use lib.ListN.{length}
 use borrow.Author.Tests.{eqb-true, ltb-true, ltb-false, lt-ltb, not-true}
 use Rattle.tables.specs.Limits.{stepLimit, treeLimit, wordLimit}
 use Rattle.tables.specs.Words.{steps, label}
 use Rattle.tables.specs.Patterns.{Pattern}
-use Rattle.tables.specs.Documents.{Sound, bare}
 use Rattle.tables.specs.Checks.{patternCheck, treeCheck, sizeCheck, each, axisCheck, axisRight, nodeCheck, parentRight}
 use Rattle.tables.specs.declared.refusal.Checked.{Checked}
 use Rattle.tables.specs.declared.refusal.Checked.the-variants.{Fine, Refused}
 use Rattle.tables.proofs.Soundness.{Words, accepted-pattern, accepted-tree}
 use Rattle.selection.specs.Ways.{last, up, ups}
 use Rattle.selection.proofs.Runs.{either, both}
-use Rattle.conflict.specs.Conflict.{Update, Smallest, Conflict, Touches, Deep, pattern}
+use Rattle.conflict.specs.Conflict.{Update, Smallest, Conflict, Touches, pattern}
 use Rattle.conflict.specs.Conflict.Update.{delete, insert}
 use Rattle.conflict.specs.Meeting.{agree, landing, shared, sooner, least, onward, shorter, longer, meeting, fewest, meetingOf, fewestOf}
 use Rattle.conflict.specs.Crossing.{over, goesOn, somewhere, enters, entering, deleteWay, insertWay}

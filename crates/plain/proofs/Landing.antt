@@ -1,16 +1,16 @@
 -- Landing and reaching, branch by branch as the code asks them; the last step lands exactly where the pattern selects.
-use Prim.Native.Nat.{ℕ, zero, suc, _+_, _-_, _<_, _≤_}
+use Prim.Native.Nat.{ℕ, zero, suc, _+_, _-_, _<_}
 use mathlib.Core.Path.{_≡_, refl, sym, _∙_, ap}
-use mathlib.Core.Bool.{Bool, true, false, not, _&&_, _||_, cond, or-false, or-true, and-false}
+use mathlib.Core.Bool.{Bool, true, false, not, _&&_, _||_, cond, or-false, and-false}
 use mathlib.Core.List.{List, [], _∷_}
 use native.Mathlib.Decide.{ℕ-discrete}
 use native.Mathlib.Numerals.{sub-one}
 use native.Mathlib.Omega.{arith}
-use lib.Dec.{eqb, ltb}
-use borrow.Author.Tests.{eq-eqb, ne-eqb, lt-ltb, not-true, not-false}
+use lib.Dec.{eqb}
+use borrow.Author.Tests.{ne-eqb, lt-ltb, not-true, not-false}
 use Rattle.tables.specs.Words.{steps, axis, label, nodes, parent, tag}
-use Rattle.tables.specs.Documents.{bare, present}
-use Rattle.selection.specs.Ways.{up, ups, empty, runs, run, takes, stays, last, sel, selected}
+use Rattle.tables.specs.Documents.{bare}
+use Rattle.selection.specs.Ways.{up, ups, empty, runs, run, takes, stays, last, selected}
 use Rattle.selection.proofs.Up.{up-top, up-node}
 use Rattle.selection.proofs.Runs.{stays-next, stays-last}
 use Rattle.plain.specs.Plain.{landed, reached, landsOn, reachesTo, Asked}

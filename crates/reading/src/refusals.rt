@@ -21,7 +21,7 @@ fn asked(p: &[u16], table: usize, used: usize, bytes: usize) -> Checked
 }
 
 // The refusals of a read: the document's, the pattern's, then 7.
-pub fn checked(
+pub(crate) fn checked(
     p: &[u16],
     table: usize,
     rows: &[u16],

@@ -40,7 +40,7 @@ fn answers(marks: &[u8], used: usize, row: &mut [u8])
 }
 
 // The row of a read that meets no refusal.
-pub fn filled(p: &[u16], rows: &[u16], marks: &[u8], used: usize, row: &mut [u8])
+pub(crate) fn filled(p: &[u16], rows: &[u16], marks: &[u8], used: usize, row: &mut [u8])
     requires { ⌜ Readable (now p) (now rows) used (now row) ⌝ }
     ensures { λ _. ⌜ now (row .exit) ≡ readRow (now (p .entry)) (doc (now (rows .entry)) (now (marks .entry)) used) (now (row .entry)) ⌝ }
 {

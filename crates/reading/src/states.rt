@@ -103,7 +103,7 @@ fn step(p: &[u16], i: usize, rows: &[u16], used: usize, row: &mut [u8])
 }
 
 // All steps are taken, one after another.
-pub fn stepped(p: &[u16], rows: &[u16], used: usize, row: &mut [u8])
+pub(crate) fn stepped(p: &[u16], rows: &[u16], used: usize, row: &mut [u8])
     requires { ⌜ Ready (now rows) used (now row) ⌝ }
     ensures { λ _. ⌜ now (row .exit) ≡ tab (held (now (p .entry)) (now (rows .entry)) (steps (now (p .entry)))) used ++ drop used (now (row .entry)) ⌝ }
 {

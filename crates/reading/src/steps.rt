@@ -6,7 +6,7 @@ ghost use mathlib.Core.Bool.{false};
 ghost use Rattle.selection.specs.Ways.{takes, stays};
 
 // Whether step i takes a label: a wildcard any, a name its own.
-pub fn takes(p: &[u16], i: usize, label: usize) -> bool
+pub(crate) fn takes(p: &[u16], i: usize, label: usize) -> bool
     ensures { λ r. ⌜ r ≡ takes (now (p .entry)) i label ⌝ }
 {
     let own = second_word(p, i);
@@ -17,7 +17,7 @@ pub fn takes(p: &[u16], i: usize, label: usize) -> bool
 }
 
 // Whether the next axis is descendant, so that step i, once landed, also stays for every node below.
-pub fn stays(p: &[u16], i: usize) -> bool
+pub(crate) fn stays(p: &[u16], i: usize) -> bool
     ensures { λ r. ⌜ r ≡ stays (now (p .entry)) false i ⌝ }
 {
     let n = p.len() / 2;

@@ -6,11 +6,11 @@ use mathlib.Core.List.{List, []}
 use mathlib.Core.Logic.{_⊎_, ⊎-elim, _↔_, Iff·symm, Iff·trans}
 use native.Mathlib.Nat.{eq-or-lt-of-le, le-pred-of-lt, le-of-eq, suc-pred-eq-of-pos}
 use native.Mathlib.Omega.{arith}
-use lib.Dec.{eqb, ltb, leb}
-use borrow.Author.Tests.{eq-eqb, ltb-true, le-leb, lt-leb}
+use lib.Dec.{leb}
+use borrow.Author.Tests.{eq-eqb, le-leb, lt-leb}
 use Rattle.tables.specs.Words.{steps, axis, label, parent, tag}
 use Rattle.tables.specs.Patterns.{Pattern}
-use Rattle.tables.specs.Documents.{Doc, Sound, present, mark}
+use Rattle.tables.specs.Documents.{Doc, Sound, present}
 use Rattle.selection.specs.Embeddings.{Child, Below, Below.one, Below.more, Embedding, Selects}
 use Rattle.selection.specs.Ways.{up, run, takes, stays, last, sel, selected}
 use Rattle.selection.proofs.Up.{Up, Up.top, Up.node, way-is}

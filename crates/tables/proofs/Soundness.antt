@@ -1,20 +1,20 @@
 -- What the checks accept: a pattern, a sound tree, a sound document. Words are below 2 ^ 16.
-use Prim.Native.Nat.{ℕ, zero, suc, _+_, _*_, _/_, _%_, _<_, _≤_}
-use mathlib.Core.Path.{_≡_, refl, sym, subst, _∙_}
-use mathlib.Core.Bool.{Bool, true, false, _&&_, _||_, cond, and-eq-true-iff}
-use mathlib.Core.List.{List, []}
+use Prim.Native.Nat.{ℕ, suc, _+_, _*_, _/_, _%_, _<_, _≤_}
+use mathlib.Core.Path.{_≡_, refl}
+use mathlib.Core.Bool.{Bool, true, false, _&&_, _||_, and-eq-true-iff}
+use mathlib.Core.List.{List}
 use mathlib.Core.Logic.{_⊎_, inl, inr, ⊎-map}
 use native.Mathlib.Nat.{zero-add}
 use native.Mathlib.Omega.{arith}
 use lib.Dec.{eqb, ltb, leb}
 use lib.ListN.{length, getD}
-use borrow.Author.Tests.{eqb-true, ltb-true, leb-true, ne-eqb, eq-eqb, lt-ltb, eqb-false}
+use borrow.Author.Tests.{eqb-true, ltb-true, leb-true, ne-eqb, lt-ltb}
 use Rattle.tables.specs.declared.refusal.Checked.{Checked}
-use Rattle.tables.specs.declared.refusal.Checked.the-variants.{Fine, Refused}
+use Rattle.tables.specs.declared.refusal.Checked.the-variants.{Fine}
 use Rattle.tables.specs.Limits.{usedLimit, wordLimit}
 use Rattle.tables.specs.Words.{steps, axis, nodes, parent, tag}
 use Rattle.tables.specs.Patterns.{Pattern}
-use Rattle.tables.specs.Documents.{Doc, doc, bare, mark, present, Sound}
+use Rattle.tables.specs.Documents.{Doc, bare, mark, Sound}
 use Rattle.tables.specs.Checks.{refuse, _then_, test, each, sizeCheck, axisRight, axisCheck, patternCheck, parentRight, nodeCheck, treeCheck, usedRight, usedCheck, markRight, markCheck, documentCheck}
 use Rattle.tables.proofs.Accepted.{held, then-first, then-second, each-fine}
 

@@ -76,7 +76,7 @@ fn turn(x: &[u16], b: usize, q: usize, at: usize, rows: &mut [u16], marks: &mut 
 }
 
 // A copy of x under each chosen node, in rising number.
-pub fn grafts(x: &[u16], rows: &mut [u16], marks: &mut [u8], used: usize, row: &[u8])
+pub(crate) fn grafts(x: &[u16], rows: &mut [u16], marks: &mut [u8], used: usize, row: &[u8])
     requires { ⌜ Roomy (now x) (doc (now rows) (now marks) used) (now row) ⌝ }
     ensures { λ _. ⌜ Grafted (now (x .entry)) (doc (now (rows .entry)) (now (marks .entry)) used) (now (row .entry)) (now (rows .exit)) (now (marks .exit)) ⌝ }
 {

@@ -25,7 +25,7 @@ fn one(b: usize) -> usize
 }
 
 // How many used nodes the row has chosen.
-pub fn counted(row: &[u8], used: usize) -> usize
+pub(crate) fn counted(row: &[u8], used: usize) -> usize
     ensures { λ r. ⌜ r ≡ count (chosen (now (row .entry))) used ⌝ }
 {
     let mut n: usize = 0;
@@ -59,7 +59,13 @@ fn fitting(end: usize, words: usize, marks: usize) -> Checked
 }
 
 // The answer of an insert of so many copies of so many nodes.
-pub fn answered(used: usize, copies: usize, nodes: usize, words: usize, marks: usize) -> Inserted
+pub(crate) fn answered(
+    used: usize,
+    copies: usize,
+    nodes: usize,
+    words: usize,
+    marks: usize,
+) -> Inserted
     requires { ⌜ Small used copies nodes ⌝ }
     ensures { λ r. ⌜ r ≡ insertAnswer (test (leb (used + copies * nodes) (min usedLimit (min (words / 2) marks))) (refuse 11 4 0)) copies (used + copies * nodes) ⌝ }
 {

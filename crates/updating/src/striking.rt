@@ -34,7 +34,7 @@ fn marked(hit: u8, mark: u8) -> u8
 }
 
 // Every node in rising number, so each parent before its children: its byte and its mark are 1 where it is struck. How many are.
-pub fn strike(rows: &[u16], marks: &mut [u8], used: usize, row: &mut [u8]) -> usize
+pub(crate) fn strike(rows: &[u16], marks: &mut [u8], used: usize, row: &mut [u8]) -> usize
     requires { ⌜ Strikable (doc (now rows) (now marks) used) (now row) ⌝ }
     ensures { λ n. ⌜ Strikes (doc (now (rows .entry)) (now (marks .entry)) used) (now (row .entry)) (now (marks .exit)) n ⌝ }
 {

@@ -74,7 +74,7 @@ fn inside() {
     row(&behind);
 }
 
-pub fn run() {
+pub(crate) fn run() {
     refusals();
     order();
     below();

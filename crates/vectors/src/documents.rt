@@ -83,7 +83,7 @@ fn marks() {
     );
 }
 
-pub fn run() {
+pub(crate) fn run() {
     used_counts();
     halves();
     full();

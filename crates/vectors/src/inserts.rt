@@ -123,7 +123,7 @@ fn full() {
     );
 }
 
-pub fn run() {
+pub(crate) fn run() {
     refusals();
     exactly();
     tree_of_two();

@@ -54,7 +54,7 @@ fn last_axis() {
     checked(b"axes of steps 0 and 63 wrong", pattern(&p, STEP_LIMIT, 1));
 }
 
-pub fn run() {
+pub(crate) fn run() {
     sizes();
     limits();
     axes();

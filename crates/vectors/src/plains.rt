@@ -87,7 +87,7 @@ fn steps_within() {
     row(&bytes);
 }
 
-pub fn run() {
+pub(crate) fn run() {
     tree_refusals();
     pattern_refusals();
     rows();

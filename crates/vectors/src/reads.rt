@@ -88,7 +88,7 @@ fn longest() {
     reading_of(b"read: 65 steps", &q, &[0, 1, 0, 1], &[0u8; 2], 2);
 }
 
-pub fn run() {
+pub(crate) fn run() {
     document_refusals();
     pattern_refusals();
     removed_nodes();

@@ -7,16 +7,16 @@ use tables::refusal::Refusal;
 use updating::delete::Deleted;
 use updating::insert::Inserted;
 
-pub fn text(s: &[u8]) {
+pub(crate) fn text(s: &[u8]) {
     io::write_all(STDOUT_FILENO, s);
 }
 
-pub fn number(n: usize) {
+pub(crate) fn number(n: usize) {
     io::print_decimal(STDOUT_FILENO, n as u64);
 }
 
 // A refusal as number, table, place.
-pub fn refusal(r: Refusal) {
+pub(crate) fn refusal(r: Refusal) {
     number(r.number);
     text(b" table ");
     number(r.table);
@@ -24,7 +24,7 @@ pub fn refusal(r: Refusal) {
     number(r.place);
 }
 
-pub fn checked(name: &[u8], c: Checked) {
+pub(crate) fn checked(name: &[u8], c: Checked) {
     text(name);
     match c {
         Checked::Fine => text(b": fine"),
@@ -36,7 +36,7 @@ pub fn checked(name: &[u8], c: Checked) {
     text(b"\n");
 }
 
-pub fn deleted(name: &[u8], d: Deleted) {
+pub(crate) fn deleted(name: &[u8], d: Deleted) {
     text(name);
     match d {
         Deleted::Removed(n) => {
@@ -51,7 +51,7 @@ pub fn deleted(name: &[u8], d: Deleted) {
     text(b"\n");
 }
 
-pub fn inserted(name: &[u8], i: Inserted) {
+pub(crate) fn inserted(name: &[u8], i: Inserted) {
     text(name);
     match i {
         Inserted::Copied(n, used) => {
@@ -95,7 +95,7 @@ fn all_words(words: &[u16]) {
 }
 
 // The words of a table, a space before each.
-pub fn table(words: &[u16]) {
+pub(crate) fn table(words: &[u16]) {
     text(b"  words");
     all_words(words);
     text(b"\n");
@@ -116,14 +116,14 @@ fn ones(bytes: &[u8]) -> usize
     n
 }
 
-pub fn counted(bytes: &[u8]) {
+pub(crate) fn counted(bytes: &[u8]) {
     text(b"  ones ");
     number(ones(bytes));
     text(b"\n");
 }
 
 // The bytes of a row, a space before each.
-pub fn row(bytes: &[u8]) {
+pub(crate) fn row(bytes: &[u8]) {
     text(b"  row");
     all_bytes(bytes);
     text(b"\n");

@@ -56,7 +56,7 @@ fn nodes() {
     );
 }
 
-pub fn run() {
+pub(crate) fn run() {
     sizes();
     limits();
     over();

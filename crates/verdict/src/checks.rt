@@ -44,7 +44,7 @@ fn two_steps(p: &[u16]) -> Checked
 }
 
 // A read and a delete.
-pub fn deep_delete_check(r: &[u16], p: &[u16]) -> Checked
+pub(crate) fn deep_delete_check(r: &[u16], p: &[u16]) -> Checked
     ensures { λ c. ⌜ c ≡ deepDeleteCheck (now (r .entry)) (now (p .entry)) ⌝ }
 {
     match patterns(r, p) {
@@ -54,7 +54,7 @@ pub fn deep_delete_check(r: &[u16], p: &[u16]) -> Checked
 }
 
 // A read and an insert.
-pub fn deep_insert_check(r: &[u16], p: &[u16], x: &[u16]) -> Checked
+pub(crate) fn deep_insert_check(r: &[u16], p: &[u16], x: &[u16]) -> Checked
     ensures { λ c. ⌜ c ≡ deepInsertCheck (now (r .entry)) (now (p .entry)) (now (x .entry)) ⌝ }
 {
     match patterns(r, p) {
@@ -64,7 +64,7 @@ pub fn deep_insert_check(r: &[u16], p: &[u16], x: &[u16]) -> Checked
 }
 
 // A read and a delete, and an output of so many words.
-pub fn delete_check(r: &[u16], p: &[u16], words: usize) -> Checked
+pub(crate) fn delete_check(r: &[u16], p: &[u16], words: usize) -> Checked
     ensures { λ c. ⌜ c ≡ deleteCheck (now (r .entry)) (now (p .entry)) words ⌝ }
 {
     match deep_delete_check(r, p) {
@@ -74,7 +74,7 @@ pub fn delete_check(r: &[u16], p: &[u16], words: usize) -> Checked
 }
 
 // A read and an insert, and an output of so many words.
-pub fn insert_check(r: &[u16], p: &[u16], x: &[u16], words: usize) -> Checked
+pub(crate) fn insert_check(r: &[u16], p: &[u16], x: &[u16], words: usize) -> Checked
     ensures { λ c. ⌜ c ≡ insertCheck (now (r .entry)) (now (p .entry)) (now (x .entry)) words ⌝ }
 {
     match deep_insert_check(r, p, x) {

@@ -109,7 +109,7 @@ fn climb_node(r: &[u16], x: &[u16], v: usize, rows: &mut [u8])
 }
 
 // Every node but the root, from the last down.
-pub fn climb(r: &[u16], x: &[u16], rows: &mut [u8])
+pub(crate) fn climb(r: &[u16], x: &[u16], rows: &mut [u8])
     requires { ⌜ Fitting (now r) (now x) ⌝ }
     requires { ⌜ Blank (now rows) ⌝ }
     ensures { λ _. ⌜ Climbed (now (r .entry)) (now (x .entry)) 1 0 (now (rows .exit)) ⌝ }
@@ -123,7 +123,7 @@ pub fn climb(r: &[u16], x: &[u16], rows: &mut [u8])
 }
 
 // Whether r, in state i at the update point, goes on to its last step at some node of x.
-pub fn entering_at(r: &[u16], x: &[u16], i: usize, rows: &[u8]) -> bool
+pub(crate) fn entering_at(r: &[u16], x: &[u16], i: usize, rows: &[u8]) -> bool
     requires { ⌜ Fitting (now r) (now x) ⌝ }
     requires { ⌜ Climbed (now r) (now x) 1 0 (now rows) ⌝ }
     requires { ⌜ i < last (now r) ⌝ }

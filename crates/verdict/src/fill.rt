@@ -16,7 +16,7 @@ ghost use Rattle.conflict.specs.Meeting.{agree, fewestOf};
 ghost use Rattle.verdict.specs.Cells.{place, bothLand, readLands, updateLands, Roomy, Held, Next};
 
 // The number in the cell of i and j.
-pub fn cell(table: &[u16], i: usize, j: usize) -> usize
+pub(crate) fn cell(table: &[u16], i: usize, j: usize) -> usize
     requires { ⌜ (i < wordLimit) × (j < wordLimit) ⌝ }
     ensures { λ x. ⌜ x ≡ getD (now (table .entry)) (place i j) 0 ⌝ }
 {
@@ -24,7 +24,7 @@ pub fn cell(table: &[u16], i: usize, j: usize) -> usize
 }
 
 // How many labels where both land at the nearest.
-pub fn both_land(
+pub(crate) fn both_land(
     r: &[u16],
     below: bool,
     p: &[u16],
@@ -44,7 +44,7 @@ pub fn both_land(
 }
 
 // How many where the read lands and the update stays.
-pub fn read_lands(
+pub(crate) fn read_lands(
     r: &[u16],
     below: bool,
     p: &[u16],
@@ -61,7 +61,7 @@ pub fn read_lands(
 }
 
 // How many where the update lands and the read stays.
-pub fn update_lands(
+pub(crate) fn update_lands(
     r: &[u16],
     below: bool,
     p: &[u16],
@@ -141,7 +141,7 @@ fn fill_row(r: &[u16], below: bool, p: &[u16], under: bool, i: usize, table: &mu
 }
 
 // Fills the table: afterwards the cell of every state i of the read and j of the update holds their number.
-pub fn fill(r: &[u16], below: bool, p: &[u16], under: bool, table: &mut [u16])
+pub(crate) fn fill(r: &[u16], below: bool, p: &[u16], under: bool, table: &mut [u16])
     requires { ⌜ Roomy (now r) (now p) (now table) ⌝ }
     ensures { λ _. ⌜ Held (now (r .entry)) below (now (p .entry)) under (steps (now (r .entry))) 0 (now (table .exit)) ⌝ }
 {

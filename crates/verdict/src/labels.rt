@@ -5,7 +5,7 @@ ghost use Rattle.selection.specs.Ways.{takes};
 ghost use Rattle.conflict.specs.Meeting.{agree, landing, shared};
 
 // The label of step or node v, 0 outside the table.
-pub fn label_word(t: &[u16], v: usize) -> u16
+pub(crate) fn label_word(t: &[u16], v: usize) -> u16
     ensures { λ r. ⌜ r ≡ tag (now (t .entry)) v ⌝ }
 {
     if t.len() <= v {
@@ -19,7 +19,7 @@ pub fn label_word(t: &[u16], v: usize) -> u16
 }
 
 // Whether two steps can take one label.
-pub fn agreeing(x: u16, y: u16) -> bool
+pub(crate) fn agreeing(x: u16, y: u16) -> bool
     ensures { λ r. ⌜ r ≡ agree x y ⌝ }
 {
     if x == 0 {
@@ -32,7 +32,7 @@ pub fn agreeing(x: u16, y: u16) -> bool
 }
 
 // The label at which a step lands.
-pub fn landing_label(x: u16) -> u16
+pub(crate) fn landing_label(x: u16) -> u16
     ensures { λ r. ⌜ r ≡ landing x ⌝ }
 {
     if x == 0 {
@@ -42,7 +42,7 @@ pub fn landing_label(x: u16) -> u16
 }
 
 // The label at which two steps that agree land.
-pub fn shared_label(x: u16, y: u16) -> u16
+pub(crate) fn shared_label(x: u16, y: u16) -> u16
     ensures { λ r. ⌜ r ≡ shared x y ⌝ }
 {
     if x == 0 {
@@ -52,7 +52,7 @@ pub fn shared_label(x: u16, y: u16) -> u16
 }
 
 // Whether step i takes this label.
-pub fn taking(p: &[u16], i: usize, l: u16) -> bool
+pub(crate) fn taking(p: &[u16], i: usize, l: u16) -> bool
     ensures { λ r. ⌜ r ≡ takes (now (p .entry)) i l ⌝ }
 {
     let x = label_word(p, i);

@@ -7,7 +7,7 @@ ghost use Rattle.conflict.specs.Meeting.{sooner, least, onward};
 ghost use Rattle.tables.specs.Limits.{wordLimit};
 
 // Whether state i may stay.
-pub fn staying(p: &[u16], below: bool, i: usize) -> bool
+pub(crate) fn staying(p: &[u16], below: bool, i: usize) -> bool
     ensures { λ r. ⌜ r ≡ stays (now (p .entry)) below i ⌝ }
 {
     let n = p.len() / 2;
@@ -21,7 +21,7 @@ pub fn staying(p: &[u16], below: bool, i: usize) -> bool
 }
 
 // Of two numbers, 0 for none: whether the first is present, and the second is not or is no less.
-pub fn is_sooner(m: usize, n: usize) -> bool
+pub(crate) fn is_sooner(m: usize, n: usize) -> bool
     ensures { λ r. ⌜ r ≡ sooner m n ⌝ }
 {
     if m == 0 {
@@ -34,7 +34,7 @@ pub fn is_sooner(m: usize, n: usize) -> bool
 }
 
 // The least that is present.
-pub fn least_of(m: usize, n: usize) -> usize
+pub(crate) fn least_of(m: usize, n: usize) -> usize
     ensures { λ r. ⌜ r ≡ least m n ⌝ }
 {
     if is_sooner(m, n) {
@@ -44,7 +44,7 @@ pub fn least_of(m: usize, n: usize) -> usize
 }
 
 // One more, by a move that may be made.
-pub fn one_more(may: bool, n: usize) -> usize
+pub(crate) fn one_more(may: bool, n: usize) -> usize
     requires { ⌜ n < wordLimit ⌝ }
     ensures { λ r. ⌜ r ≡ onward may n ⌝ }
 {
@@ -58,7 +58,7 @@ pub fn one_more(may: bool, n: usize) -> usize
 }
 
 // The state before i.
-pub fn earlier(i: usize) -> usize
+pub(crate) fn earlier(i: usize) -> usize
     ensures { λ r. ⌜ r ≡ pred i ⌝ }
 {
     if i == 0 {

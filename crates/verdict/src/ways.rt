@@ -40,7 +40,7 @@ fn rows() -> [u8; BYTES]
 }
 
 // The shortest way that the read selects and the delete hits.
-pub fn delete_way(r: &[u16], p: &[u16], out: &mut [u16]) -> usize
+pub(crate) fn delete_way(r: &[u16], p: &[u16], out: &mut [u16]) -> usize
     requires { ⌜ Bounded (now r) (now p) ⌝ }
     requires { ⌜ needed (now r) (now p) ≤ length (now out) ⌝ }
     ensures { λ n. ⌜ Written (deleteWay (now (r .entry)) (now (p .entry))) (now (out .entry)) (now (out .exit)) n ⌝ }
@@ -55,7 +55,7 @@ pub fn delete_way(r: &[u16], p: &[u16], out: &mut [u16]) -> usize
 }
 
 // Whether some way has an update point of p below a node that r selects.
-pub fn touching(r: &[u16], p: &[u16]) -> bool
+pub(crate) fn touching(r: &[u16], p: &[u16]) -> bool
     requires { ⌜ Bounded (now r) (now p) ⌝ }
     ensures { λ b. ⌜ b ≡ touches (now (r .entry)) (now (p .entry)) ⌝ }
 {
@@ -122,7 +122,7 @@ fn write_entering(
 }
 
 // The shortest way that the insert selects and from which the read enters the inserted tree.
-pub fn insert_way(r: &[u16], p: &[u16], x: &[u16], out: &mut [u16]) -> usize
+pub(crate) fn insert_way(r: &[u16], p: &[u16], x: &[u16], out: &mut [u16]) -> usize
     requires { ⌜ Bounded (now r) (now p) ⌝ }
     requires { ⌜ Fitting (now r) (now x) ⌝ }
     requires { ⌜ needed (now r) (now p) ≤ length (now out) ⌝ }

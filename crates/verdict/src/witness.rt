@@ -107,7 +107,7 @@ fn put(out: &mut [u16], k: usize, l: u16)
 }
 
 // Writes the way of i and j, of n labels, as a chain at the front of the output; all behind it stays.
-pub fn trace(
+pub(crate) fn trace(
     r: &[u16],
     below: bool,
     p: &[u16],

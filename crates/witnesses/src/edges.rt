@@ -147,7 +147,7 @@ fn large_trees() {
     );
 }
 
-pub fn run() {
+pub(crate) fn run() {
     patterns();
     trees();
     rooms();

@@ -40,7 +40,7 @@ fn more_deletes() {
     by_delete(b"P14", &[0, 1, 2, 2, 2, 3], &[0, 1, 2, 4, 2, 5]);
 }
 
-pub fn run() {
+pub(crate) fn run() {
     inserts();
     more_inserts();
     deletes();

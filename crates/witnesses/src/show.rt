@@ -4,11 +4,11 @@ use tables::refusal::Refusal;
 use verdict::deep::Deeply;
 use verdict::node::Verdict;
 
-pub fn text(s: &[u8]) {
+pub(crate) fn text(s: &[u8]) {
     io::write_all(STDOUT_FILENO, s);
 }
 
-pub fn number(n: usize) {
+pub(crate) fn number(n: usize) {
     io::print_decimal(STDOUT_FILENO, n as u64);
 }
 
@@ -20,7 +20,7 @@ fn refusal(r: Refusal) {
     number(r.place);
 }
 
-pub fn answered(v: Verdict) {
+pub(crate) fn answered(v: Verdict) {
     match v {
         Verdict::Clear => text(b": none"),
         Verdict::Conflict(n) => {
@@ -34,13 +34,13 @@ pub fn answered(v: Verdict) {
     }
 }
 
-pub fn verdict(name: &[u8], v: Verdict) {
+pub(crate) fn verdict(name: &[u8], v: Verdict) {
     text(name);
     answered(v);
     text(b"\n");
 }
 
-pub fn deep(name: &[u8], d: Deeply) {
+pub(crate) fn deep(name: &[u8], d: Deeply) {
     text(name);
     match d {
         Deeply::No => text(b": deep no"),
@@ -67,7 +67,7 @@ fn all_words(words: &[u16]) {
 }
 
 // The words of a table, a space before each.
-pub fn table(words: &[u16]) {
+pub(crate) fn table(words: &[u16]) {
     text(b"  words");
     all_words(words);
     text(b"\n");

@@ -34,7 +34,7 @@ fn deleted(r: &[u16], p: &[u16], out: &[u16], n: usize) {
     again(r, out, &marks, n, &before);
 }
 
-pub fn by_delete(name: &[u8], r: &[u16], p: &[u16]) {
+pub(crate) fn by_delete(name: &[u8], r: &[u16], p: &[u16]) {
     let mut out = [0u16; 254];
     text(name);
     let v = delete_verdict(r, p, &mut out);
@@ -56,7 +56,7 @@ fn inserted(r: &[u16], p: &[u16], x: &[u16], out: &mut [u16], n: usize) {
     }
 }
 
-pub fn by_insert(name: &[u8], r: &[u16], p: &[u16], x: &[u16]) {
+pub(crate) fn by_insert(name: &[u8], r: &[u16], p: &[u16], x: &[u16]) {
     let mut out = [0u16; 254];
     text(name);
     let v = insert_verdict(r, p, x, &mut out);

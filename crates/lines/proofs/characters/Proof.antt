@@ -1,7 +1,6 @@
 -- The characters not yet looked at decide the answer.
 use Prim.Native.Nat.{_≤_, _-_}
 use mathlib.Core.Path.{_≡_}
-use lib.ListN.{length}
 use borrow.Author.Needs.{needs}
 use Rattle.tables.proofs.Each.{each-start, each-on, each-off, each-end}
 use Rattle.lines.specs.Lines.{characterCheck}

@@ -1,5 +1,4 @@
 -- The four digits, joined.
-use native.Mathlib.Omega.{arith}
 use borrow.Author.Needs.{needs}
 use Rattle.lines.proofs.Digits.{word-joined}
 use Rattle.lines.proofs.word_of.Statement.{statement}

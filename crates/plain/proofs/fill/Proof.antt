@@ -1,12 +1,11 @@
 -- The bytes below v are written, the others as they were.
-use Prim.Native.Nat.{ℕ, _<_, _≤_, _-_}
+use Prim.Native.Nat.{_≤_, _-_}
 use mathlib.Core.Path.{_≡_}
 use mathlib.Core.Bool.{cond}
 use mathlib.Core.List.{_++_}
 use borrow.Author.Needs.{needs}
 use native.Mathlib.Omega.{arith}
-use lib.ListN.{length, drop}
-use Rattle.tables.specs.Words.{steps, nodes, parent}
+use lib.ListN.{drop}
 use Rattle.selection.specs.Lists.{tab}
 use Rattle.selection.specs.Ways.{last}
 use Rattle.selection.proofs.Filling.{row-start, row-more, row-within, row-long, row-end}
