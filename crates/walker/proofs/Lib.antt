@@ -1,0 +1,4 @@
+-- Laws of the frame walker.
+pub mod Given
+pub mod Branches
+pub mod Laws

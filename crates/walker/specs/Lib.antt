@@ -1,0 +1,2 @@
+-- What a reader must believe of the frame walker.
+pub mod Walker

@@ -1,0 +1,46 @@
+-- What the frame walker gives at a place of the batch, and where it stands next.
+use Prim.Native.Nat.{ℕ, _+_, _-_}
+use mathlib.Core.Bool.{cond}
+use mathlib.Core.List.{List}
+use lib.Dec.{ltb, leb}
+use lib.ListN.{length}
+use Rattle.tables.specs.Limits.{batchLimit}
+use Rattle.frames.specs.Frames.{part, frameAt}
+use Rattle.frames.specs.declared.Framed.{Framed}
+use Rattle.frames.specs.declared.Framed.the-variants as framed
+use Rattle.walker.specs.declared.Answer.{Answer}
+use Rattle.walker.specs.declared.Answer.the-variants as answer
+
+-- a frame or its refusal, as it is given
+abbrev pub answerOf : Framed → Answer
+answerOf (framed.Refused r) = answer.Refused r
+answerOf (framed.Found f) = answer.Frame f
+
+-- over 16,384 words 10 at every call; at the end none is left; else frame n at the place, or its refusal
+unfoldable pub stepAt : List ℕ → ℕ → ℕ → Answer
+stepAt b n at =
+    cond (leb (length b) batchLimit)
+    (cond (ltb at (length b)) (answerOf (frameAt b n at)) answer.Over)
+    (answer.Refused (record { number = 10; table = 6; place = 0 }))
+
+-- behind a frame its end, else the same place
+abbrev pub placeOf : Answer → ℕ → ℕ
+placeOf (answer.Refused r) at = at
+placeOf (answer.Frame f) at = f .next
+placeOf answer.Over at = at
+
+-- behind a frame the next number, else the same
+abbrev pub numberOf : Answer → ℕ → ℕ
+numberOf (answer.Refused r) n = n
+numberOf (answer.Frame f) n = n + 1
+numberOf answer.Over n = n
+
+unfoldable pub placeAfter : List ℕ → ℕ → ℕ → ℕ
+placeAfter b n at = placeOf (stepAt b n at) at
+
+unfoldable pub numberAfter : List ℕ → ℕ → ℕ → ℕ
+numberAfter b n at = numberOf (stepAt b n at) n
+
+-- the words from the place to the one behind the frame: none where no frame is given
+unfoldable pub partAt : List ℕ → ℕ → ℕ → List ℕ
+partAt b n at = part b at (placeAfter b n at - at)
