@@ -1,4 +1,5 @@
 // Plans of batches, and the refusals of a batch at their edges. What they should print is in `stdout`, worked out from document 01.
+mod orders;
 mod show;
 
 use batch::plan::plan;
@@ -6,7 +7,7 @@ use show::planned;
 use show::table;
 
 // A plan into six words, and the words after it.
-fn planned_into(name: &[u8], b: &[u16]) {
+pub(crate) fn planned_into(name: &[u8], b: &[u16]) {
     let mut out = [99u16; 6];
     planned(name, plan(b, &mut out));
     table(&out);
@@ -172,4 +173,5 @@ fn main() {
     frames_128();
     frames_129();
     words();
+    orders::run();
 }

@@ -51,6 +51,31 @@ pub(crate) fn table(words: &[u16]) {
     text(b"\n");
 }
 
+fn byte_at(row: &[u8], i: usize) {
+    text(b" ");
+    number(tables::words::byte(row, i));
+}
+
+fn all_bytes(row: &[u8]) {
+    let mut i = 0;
+    while i < row.len() {
+        byte_at(row, i);
+        i += 1;
+    }
+}
+
+// A row of bytes behind its name, a space before each.
+pub(crate) fn bytes(name: &[u8], row: &[u8]) {
+    text(name);
+    all_bytes(row);
+    text(b"\n");
+}
+
+pub(crate) fn heading(name: &[u8]) {
+    text(name);
+    text(b"\n");
+}
+
 // Reads of one step, four words each: kind 1, one step, axis 0, name 1. All words are 1 but the axes.
 pub(crate) fn roots(b: &mut [u16]) {
     let n = b.len() / 4;

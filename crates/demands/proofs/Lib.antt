@@ -1,0 +1,3 @@
+-- The demands, proved.
+pub mod Thirteen
+pub mod Demands

@@ -1,0 +1,151 @@
+-- Every check gives one of the thirteen refusals or none.
+use Prim.Native.Nat.{ℕ, zero, suc, _*_, _/_}
+use mathlib.Core.Bool.{Bool, true, false, cond}
+use mathlib.Core.List.{List}
+use native.Mathlib.Omega.{arith}
+use mathlib.Core.Path.{_≡_, refl}
+use lib.Dec.{T, leb, ltb, lit≤}
+use lib.ListN.{length}
+use Rattle.tables.specs.Documents.{Doc}
+use Rattle.tables.specs.declared.refusal.Checked.{Checked}
+use Rattle.tables.specs.declared.refusal.Checked.the-variants.{Fine, Refused}
+use Rattle.tables.specs.Checks.{refuse, _then_, test, each, sizeCheck, axisCheck, patternCheck, nodeCheck, treeCheck, usedCheck, markCheck, documentCheck, outputCheck}
+use Rattle.frames.specs.Frames.{placed, countCheck, stepsCheck, nodesCheck, restCheck, frameCheck, endOf}
+use Rattle.plain.specs.Plain.{plainCheck}
+use Rattle.reading.specs.Reading.{readCheck}
+use Rattle.updating.specs.Updating as updating
+use Rattle.conflict.specs.Conflict.{Update, delete, insert}
+use Rattle.verdict.specs.Order.{roomCheck, patternsCheck, deepDeleteCheck, deepInsertCheck, deleteCheck, insertCheck, deepCheck, verdictCheck}
+use Rattle.batch.specs.Batch.{checkFrom, batchCheck, planCheck}
+use Rattle.lines.specs.Lines.{characterCheck, lineCheck}
+use Rattle.demands.specs.Demands.{Thirteen}
+
+fine : Thirteen Fine
+fine = record { numbered = λ r e. let z : _≡_ {A = ℕ} 0 1 = cc in absurd (omega arith) }
+
+refusal : (n table place : ℕ) → T (leb 1 n) → T (leb n 13) → Thirteen (refuse n table place)
+refusal n table place h k =
+    record { numbered = λ r e. let q : n ≡ r .number = cc in record { least = rw (← q) (lit≤ h); most = rw (← q) (lit≤ k) } }
+
+-- checks made of parts
+tested : (b : Bool) (n table place : ℕ) → T (leb 1 n) → T (leb n 13) → Thirteen (test b (refuse n table place))
+tested true n table place h k = fine
+tested false n table place h k = refusal n table place h k
+
+chained : (a b : Checked) → Thirteen a → Thirteen b → Thirteen (a then b)
+chained Fine b h k = k
+chained (Refused r) b h k = h
+
+walked : (check : ℕ → Checked) → ((v : ℕ) → Thirteen (check v)) → (v k : ℕ) → Thirteen (each check v k)
+unfolding each
+walked check all v zero = fine
+walked check all v (suc k) = chained (check v) (each check (suc v) k) (all v) (walked check all (suc v) k)
+
+sizes : (n limit table : ℕ) → Thirteen (sizeCheck n limit table)
+unfolding sizeCheck
+sizes n limit table = search (chained, tested)
+
+pub patterns : (p : List ℕ) (limit table : ℕ) → Thirteen (patternCheck p limit table)
+unfolding patternCheck axisCheck
+patterns p limit table = search (chained, tested, walked, sizes)
+
+nodes-of : (t : List ℕ) (table v : ℕ) → Thirteen (nodeCheck t table v)
+unfolding nodeCheck
+nodes-of t table v = search (chained, tested)
+
+pub trees : (t : List ℕ) (limit table : ℕ) → Thirteen (treeCheck t limit table)
+unfolding treeCheck
+trees t limit table = search (chained, walked, sizes, nodes-of)
+
+pub documents : (d : Doc) → Thirteen (documentCheck d)
+unfolding documentCheck usedCheck markCheck
+documents d = search (chained, tested, walked, nodes-of)
+
+outputs : (wanted have : ℕ) → Thirteen (outputCheck wanted have)
+unfolding outputCheck
+outputs wanted have = search tested
+
+pub plains : (p t : List ℕ) (bytes : ℕ) → Thirteen (plainCheck p t bytes)
+unfolding plainCheck
+plains p t bytes = search (chained, trees, patterns, outputs)
+
+pub reads : (p : List ℕ) (table : ℕ) (d : Doc) (bytes : ℕ) → Thirteen (readCheck p table d bytes)
+unfolding readCheck
+reads p table d bytes = search (chained, documents, patterns, outputs)
+
+pub deletes : (p : List ℕ) (d : Doc) → Thirteen (updating.deleteCheck p d)
+unfolding updating.deleteCheck
+deletes p d = search (chained, documents, patterns, tested)
+
+pub inserts : (p x : List ℕ) (d : Doc) → Thirteen (updating.insertCheck p x d)
+unfolding updating.insertCheck
+inserts p x d = search (chained, documents, patterns, trees, tested)
+
+both-patterns : (r p : List ℕ) → Thirteen (patternsCheck r p)
+unfolding patternsCheck
+both-patterns r p = search (chained, patterns)
+
+pub deeps : (r : List ℕ) (u : Update) → Thirteen (deepCheck r u)
+unfolding deepDeleteCheck deepInsertCheck
+deeps r (delete p) = search (chained, both-patterns, tested)
+deeps r (insert p x) = search (chained, both-patterns, trees)
+
+rooms : (r p : List ℕ) (words : ℕ) → Thirteen (roomCheck r p words)
+unfolding roomCheck
+rooms r p words = search tested
+
+pub verdicts : (r : List ℕ) (u : Update) (words : ℕ) → Thirteen (verdictCheck r u words)
+unfolding deleteCheck insertCheck
+verdicts r (delete p) words = chained (deepDeleteCheck r p) (roomCheck r p words) (deeps r (delete p)) (rooms r p words)
+verdicts r (insert p x) words = chained (deepInsertCheck r p x) (roomCheck r p words) (deeps r (insert p x)) (rooms r p words)
+
+-- in a batch
+in-frame : (n : ℕ) (c : Checked) → Thirteen c → Thirteen (placed n c)
+in-frame n Fine h = fine
+in-frame n (Refused r) h =
+    let own = h .numbered r refl in
+    record { numbered = λ q e. let same : r .number ≡ q .number = cc in record { least = rw (← same) (own .least); most = rw (← same) (own .most) } }
+
+either-check : (b : Bool) (x y : Checked) → Thirteen x → Thirteen y → Thirteen (cond b x y)
+either-check true x y h k = h
+either-check false x y h k = k
+
+counts : (b : List ℕ) (n at limit : ℕ) → Thirteen (countCheck b n at limit)
+unfolding countCheck
+counts b n at limit = search (chained, tested)
+
+steps-of : (b : List ℕ) (n at : ℕ) → Thirteen (stepsCheck b n at)
+unfolding stepsCheck
+steps-of b n at = search (chained, counts, in-frame, patterns)
+
+trees-of : (b : List ℕ) (n at : ℕ) → Thirteen (nodesCheck b n at)
+unfolding nodesCheck
+trees-of b n at = search (chained, counts, in-frame, trees)
+
+rests : (b : List ℕ) (n k at : ℕ) → Thirteen (restCheck b n k at)
+unfolding restCheck
+rests b n k at = search (chained, tested, either-check, trees-of, fine)
+
+pub frames : (b : List ℕ) (n at : ℕ) → Thirteen (frameCheck b n at)
+unfolding frameCheck
+frames b n at = search (chained, tested, steps-of, rests)
+
+frames-from : (b : List ℕ) (n at most : ℕ) → Thirteen (checkFrom b n at most)
+unfolding checkFrom
+frames-from b n at zero = fine
+frames-from b n at (suc most) =
+    either-check (ltb at (length b)) (frameCheck b n at then checkFrom b (suc n) (endOf b at) most) Fine
+    (chained (frameCheck b n at) (checkFrom b (suc n) (endOf b at) most) (frames b n at) (frames-from b (suc n) (endOf b at) most))
+    fine
+
+pub plans : (b : List ℕ) (words : ℕ) → Thirteen (planCheck b words)
+unfolding planCheck batchCheck
+plans b words = search (chained, tested, frames-from, outputs)
+
+-- in a line
+pub lines-in : (s : List ℕ) (line room : ℕ) → Thirteen (lineCheck s line then outputCheck (length s / 4) room)
+unfolding lineCheck characterCheck
+lines-in s line room = search (chained, tested, walked, outputs)
+
+pub lines-out : (ws : List ℕ) (room : ℕ) → Thirteen (outputCheck (4 * length ws) room)
+lines-out ws room = outputs (4 * length ws) room
