@@ -1,0 +1,96 @@
+-- The printed lines, thirteen bytes each, one behind the other.
+use Prim.Native.Nat.{ℕ, zero, suc, _+_, _-_, _*_, _≤_, _<_}
+use mathlib.Core.Path.{_≡_, refl, sym, _∙_, ap}
+use mathlib.Core.List.{List, [], _∷_, _++_, append-assoc, append-nil}
+use native.Mathlib.Numerals.{add-one}
+use native.Mathlib.Omega.{arith}
+use lib.Dec.{leb}
+use lib.ListN.{length, getD, take, drop, set, length-append, length-drop, length-take}
+use lib.Seq.{drop-cons, set-at, take-all, drop-drop, drop-length, append-snoc, take-at, drop-at}
+use borrow.Author.Tests.{le-leb}
+use Rattle.tables.specs.Checks.{test, refuse, outputCheck}
+use Rattle.tables.specs.declared.refusal.Checked.the-variants.{Fine, Refused}
+use Rattle.tables.proofs.Accepted.{held}
+use Rattle.selection.proofs.Lists.{length-tab, length-behind}
+use Rattle.lines.specs.Lines.{byteAt, lineOf, WrittenAs}
+use Rattle.lines.specs.declared.Spelled.{Spelled}
+use Rattle.lines.specs.declared.Spelled.the-variants as spelled
+use Rattle.printer.specs.Printer.{threeOf, planText}
+
+length-lineOf : (ws : List ℕ) → length (lineOf ws) ≡ 4 * length ws
+unfolding lineOf
+length-lineOf ws = length-tab (byteAt ws) (4 * length ws)
+
+pub length-threeOf : (a b c : ℕ) → length (threeOf a b c) ≡ 13
+unfolding threeOf
+length-threeOf a b c = rw (length-append, length-lineOf)
+
+room-for : (wanted have : ℕ) → wanted ≤ have → outputCheck wanted have ≡ Fine
+unfolding outputCheck
+room-for wanted have h = rw (le-leb wanted have h)
+
+-- where there is room, three words are written
+module _ (a b c : ℕ) (before : List ℕ) (room : 13 ≤ length before) (after : List ℕ) where
+  pub three-digits : (r : Spelled) → WrittenAs (a ∷ b ∷ c ∷ []) before after r → after ≡ lineOf (a ∷ b ∷ c ∷ []) ++ drop 12 before
+  three-digits (spelled.Refused r) e =
+      let fine = room-for 12 (length before) (omega (arith, room)) in
+      let why = e .0 in
+      let z : _≡_ {A = ℕ} 0 1 = cc in
+      absurd (omega arith)
+  three-digits (spelled.Digits n) e =
+      let twelve : n ≡ 12 = e .1 in
+      e .2 ∙ rw twelve
+
+  pub three-long : (r : Spelled) → WrittenAs (a ∷ b ∷ c ∷ []) before after r → length after ≡ length before
+  three-long r e =
+      rw (three-digits r e)
+      (length-behind (lineOf (a ∷ b ∷ c ∷ [])) before 12 (length-lineOf (a ∷ b ∷ c ∷ [])) ∙ omega (arith, room))
+
+  pub three-written : (r : Spelled) → WrittenAs (a ∷ b ∷ c ∷ []) before after r → set after 12 10 ≡ threeOf a b c ++ drop 13 before
+  unfolding threeOf
+  three-written r e =
+      rw (three-digits r e, drop-cons before 12 0 (omega (arith, room)))
+      (set-at (lineOf (a ∷ b ∷ c ∷ [])) (getD before 12 0) (drop 13 before) 10 12 (length-lineOf (a ∷ b ∷ c ∷ []))
+      ∙ sym (append-snoc (lineOf (a ∷ b ∷ c ∷ [])) 10 (drop 13 before)))
+
+module _ (kinds plan : List ℕ) where
+  pub length-planText : (n : ℕ) → length (planText kinds plan n) ≡ 13 * n
+  unfolding planText
+  length-planText zero = refl
+  length-planText (suc n) = rw (length-append, length-planText n, length-threeOf) (omega arith)
+
+  module _ (old : List ℕ) where
+    pub text-start : old ≡ planText kinds plan 0 ++ drop (13 * 0) old
+    unfolding planText
+    text-start = refl
+
+    module _ {out : List ℕ} (k : ℕ) (e : out ≡ planText kinds plan k ++ drop (13 * k) old) where
+      pub text-long : 13 * k ≤ length old → length out ≡ length old
+      text-long h = rw e (length-behind (planText kinds plan k) old (13 * k) (length-planText k) ∙ omega (arith, h))
+
+      -- one line more, written into the rest
+      pub text-more : 13 * (k + 1) ≤ length old → {rest : List ℕ}
+          → rest ≡ threeOf (getD kinds k 0) (k + 1) (getD plan k 0) ++ drop 13 (take (length out - 13 * k) (drop (13 * k) out))
+          → take (13 * k) out ++ (rest ++ drop (length out - 13 * k) (drop (13 * k) out)) ≡ planText kinds plan (k + 1) ++ drop (13 * (k + 1)) old
+      unfolding planText
+      text-more h {rest} r =
+          let line = threeOf (getD kinds k 0) (k + 1) (getD plan k 0) in
+          let first = planText kinds plan k in
+          let front : take (13 * k) out ≡ first = rw e (take-at first (drop (13 * k) old) (13 * k) (length-planText k)) in
+          let behind : drop (13 * k) out ≡ drop (13 * k) old = rw e (drop-at first (drop (13 * k) old) (13 * k) (length-planText k)) in
+          let whole : take (length out - 13 * k) (drop (13 * k) out) ≡ drop (13 * k) out = take-all (length out - 13 * k) (drop (13 * k) out) (rw length-drop (omega arith)) in
+          let end : 13 * k + (length out - 13 * k) ≡ length out = omega (arith, text-long (omega (arith, h))) in
+          let none : drop (length out - 13 * k) (drop (13 * k) out) ≡ [] = drop-drop (length out - 13 * k) (13 * k) out ∙ rw (end, drop-length) in
+          let more : 13 * k + 13 ≡ 13 * (k + 1) = omega arith in
+          let written : rest ≡ line ++ drop (13 * (k + 1)) old = r ∙ rw (whole, behind, drop-drop, more) in
+          let added : planText kinds plan (k + 1) ≡ first ++ line = ap (planText kinds plan) (add-one k) in
+          rw (none, front, append-nil, written, added) (sym (append-assoc first line (drop (13 * (k + 1)) old)))
+
+      pub text-end : (n : ℕ) → k ≤ n → n ≤ k → out ≡ planText kinds plan n ++ drop (13 * n) old
+      text-end n h l =
+          let same : n ≡ k = omega arith in
+          rw same e
+
+-- the rest from a place on has room for a line
+pub rest-room : (out : List ℕ) (k m : ℕ) → k + m ≤ length out → m ≤ length (take (length out - k) (drop k out))
+rest-room out k m h = rw (length-take, length-drop) (omega (arith, h))

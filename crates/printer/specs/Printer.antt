@@ -1,0 +1,84 @@
+-- The plan printer: lines in, a line a frame out, or the first refusal.
+use Prim.Native.Nat.{ℕ, zero, suc, _+_, _-_, _≤_, _<_}
+use mathlib.Core.Path.{_≡_}
+use mathlib.Core.Bool.{cond}
+use mathlib.Core.List.{List, [], _∷_, _++_}
+use lib.Dec.{eqb, leb}
+use lib.ListN.{length, getD, drop}
+use Rattle.tables.specs.Limits.{batchLimit}
+use Rattle.tables.specs.Checks.{_then_, test, refuse, outputCheck}
+use Rattle.tables.specs.declared.refusal.Refusal.{Refusal}
+use Rattle.tables.specs.declared.refusal.Checked.{Checked}
+use Rattle.tables.specs.declared.refusal.Checked.the-variants as checked
+use Rattle.conflict.specs.Conflict.{Update}
+use Rattle.order.specs.Model.{Frame, At}
+use Rattle.frames.specs.Frames.{part, kind, endOf, frameCheck}
+use Rattle.batch.specs.Batch.{batchOf, WordIs}
+use Rattle.lines.specs.Lines.{lineCheck, wordsOf, lineOf}
+use Rattle.printer.specs.declared.Printed.{Printed}
+use Rattle.printer.specs.declared.Printed.the-variants.{Refused, Bytes}
+
+-- the first line feed at or behind a place, of so many bytes; behind them where there is none
+unfoldable pub feedFrom : List ℕ → ℕ → ℕ → ℕ
+feedFrom s at zero = at
+feedFrom s at (suc left) = cond (eqb (getD s at 0) 10) at (feedFrom s (suc at) left)
+
+-- where the line ends that begins at a place: at the next line feed, or at the end of the input
+unfoldable pub lineEnd : List ℕ → ℕ → ℕ
+lineEnd s at = feedFrom s at (length s - at)
+
+-- that line
+abbrev pub lineAt : List ℕ → ℕ → List ℕ
+lineAt s at = part s at (lineEnd s at - at)
+
+-- line l behind n lines of words b: 13; 10, words first; as a frame; words left over 9
+unfoldable pub takeCheck : List ℕ → ℕ → List ℕ → Checked
+takeCheck l n b =
+    lineCheck l (n + 1)
+    then test (leb (length (b ++ wordsOf l)) batchLimit) (refuse 10 6 0)
+    then frameCheck (b ++ wordsOf l) n (length b)
+    then test (eqb (endOf (b ++ wordsOf l) (length b)) (length (b ++ wordsOf l))) (refuse 9 6 n)
+
+-- how the lines end: at the first refusal, with its line; or all are taken, with their words and the kinds of their frames
+pub data Outcome : Type 0 where
+  stopped : (line : ℕ) → Refusal → Outcome
+  taken : (words kinds : List ℕ) → Outcome
+
+-- the lines from a place on, behind n lines of words b, whose frames have these kinds
+pub data Lines (s : List ℕ) : ℕ → ℕ → List ℕ → List ℕ → Outcome → Type 0 where
+  none : {at n : ℕ} {b kinds : List ℕ} → length s ≤ at → Lines s at n b kinds (taken b kinds)
+  bad : {at n : ℕ} {b kinds : List ℕ} {r : Refusal} → at < length s → takeCheck (lineAt s at) n b ≡ checked.Refused r
+      → Lines s at n b kinds (stopped (n + 1) r)
+  good : {at n : ℕ} {b kinds : List ℕ} {o : Outcome} → at < length s → takeCheck (lineAt s at) n b ≡ checked.Fine
+      → Lines s (lineEnd s at + 1) (n + 1) (b ++ wordsOf (lineAt s at)) (kinds ++ (kind (b ++ wordsOf (lineAt s at)) (length b) ∷ [])) o
+      → Lines s at n b kinds o
+
+-- the plan of a batch: each frame's word
+pub record PlanIs (b plan : List ℕ) : Type 0 where
+  pub words : {k : ℕ} {f : Frame (List ℕ) Update} → At (batchOf b) k f → WordIs (batchOf b) k f (getD plan k 0)
+
+-- three words as a line, with its line feed
+unfoldable pub threeOf : ℕ → ℕ → ℕ → List ℕ
+threeOf a b c = lineOf (a ∷ b ∷ c ∷ []) ++ (10 ∷ [])
+
+-- a line a frame, of the first n: kind, frame number from 1, plan word
+unfoldable pub planText : List ℕ → List ℕ → ℕ → List ℕ
+planText kinds plan zero = []
+planText kinds plan (suc n) = planText kinds plan n ++ threeOf (getD kinds n 0) (n + 1) (getD plan n 0)
+
+-- what is printed: at a refusal only FFFF, the line number and the refusal number; else the plan
+pub data Prints (s : List ℕ) : List ℕ → Type 0 where
+  refusal : {line : ℕ} {r : Refusal} → Lines s 0 0 [] [] (stopped line r) → Prints s (threeOf 65535 line (r .number))
+  plan : {b kinds plan : List ℕ} → Lines s 0 0 [] [] (taken b kinds) → PlanIs b plan → Prints s (planText kinds plan (length kinds))
+
+-- a text is written: 7 when there is too little room; the text at the front, all behind it stays
+abbrev pub Answered : List ℕ → List ℕ → List ℕ → Printed → Type 0
+Answered text before after (Refused r) = (outputCheck (length text) (length before) ≡ checked.Refused r) × (after ≡ before)
+Answered text before after (Bytes n) =
+    (outputCheck (length text) (length before) ≡ checked.Fine) × (n ≡ length text) × (after ≡ text ++ drop n before)
+
+-- what printing promises
+pub record PrintedAs (s before after : List ℕ) (answer : Printed) : Type 0 where
+  pub text : List ℕ
+  pub prints : Prints s text
+  pub answered : Answered text before after answer
