@@ -1,5 +1,6 @@
 // The plan printer on inputs at its edges: what it prints for each. What they should print is in `stdout`, worked out from document 01.
 use libc::STDOUT_FILENO;
+use lines::write_line;
 use printer::Printed;
 use printer::print;
 ghost use mathlib.Core.Path.{_≡_};
@@ -72,9 +73,50 @@ fn characters() {
     printed(b"13 before 8", b"0004 ");
 }
 
+// A line of 17 bytes again and again.
+fn repeated(line: &[u8; 17], s: &mut [u8]) {
+    let n = s.len();
+    let mut i = 0;
+    while i < n {
+        s[i] = line[i % 17];
+        i += 1;
+    }
+}
+
+fn lines_128() {
+    let mut s = [0u8; 2176];
+    repeated(b"0001000100000001\n", &mut s);
+    printed(b"128 lines", &s);
+}
+
+fn lines_129() {
+    let mut s = [0u8; 2193];
+    repeated(b"0001000100000001\n", &mut s);
+    printed(b"129 lines", &s);
+}
+
+// Not malformed, and refused as a frame.
+fn longest() {
+    let words = [1u16; 643];
+    let mut s = [0u8; 2572];
+    write_line(&words, &mut s);
+    printed(b"2,572 digits", &s);
+}
+
+fn too_long() {
+    let words = [1u16; 644];
+    let mut s = [0u8; 2576];
+    write_line(&words, &mut s);
+    printed(b"2,576 digits", &s);
+}
+
 fn main() {
     whole();
     frames();
     more_frames();
     characters();
+    lines_128();
+    lines_129();
+    longest();
+    too_long();
 }
