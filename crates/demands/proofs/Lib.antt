@@ -1,3 +1,4 @@
 -- The demands, proved.
 pub mod Thirteen
 pub mod Demands
+pub mod Agreeing

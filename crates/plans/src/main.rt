@@ -66,6 +66,7 @@ fn cuts() {
     cut(&f, 1);
     cut(&f, 2);
     cut(&f, 3);
+    cut(&f, 4);
     cut(&f, 5);
     cut(&f, 6);
     cut(&f, 7);

@@ -18,7 +18,7 @@ use Rattle.selection.proofs.Lists.{getD-tab-before, getD-tab-behind, le
 use Rattle.selection.proofs.Selecting.{selecting}
 
 -- two bits that are 1 in the same case are equal
-same-bit : (a b : ℕ) → a ≤ 1 → b ≤ 1 → (a ≡ 1 → b ≡ 1) → (b ≡ 1 → a ≡ 1) → a ≡ b
+pub same-bit : (a b : ℕ) → a ≤ 1 → b ≤ 1 → (a ≡ 1 → b ≡ 1) → (b ≡ 1 → a ≡ 1) → a ≡ b
 same-bit a b ha hb f g = go (ℕ-discrete a 1) (ℕ-discrete b 1)
   where
     go : Dec (a ≡ 1) → Dec (b ≡ 1) → a ≡ b
