@@ -1,0 +1,29 @@
+-- The loop ends: what is left of its range falls.
+use Prim.Native.Nat.{_≤_, _-_}
+use borrow.Author.Needs.{needs}
+use Rattle.small.proofs.damage.values.Statement.{statement}
+use Rattle.small.proofs.damage.values.Tie as tie
+
+abbrev Inv-loop : tie.InvT-loop
+Inv-loop name b w frames from₀ last₀ value₀ from last value = value ≤ 65536
+
+abbrev μ-loop : tie.MeasureT-loop
+μ-loop name b w frames from₀ last₀ value₀ from last value = 65536 - value
+
+pub values-spec : {M : Type 1} → statement M
+values-spec =
+    tie.close
+    (tie.spec
+    Inv-loop
+    μ-loop
+    (λ c κs. search needs)
+    (λ c. search needs)
+    (λ c. search needs)
+    (λ c κs. search needs)
+    (λ c κs. search needs)
+    (λ c κs. search needs)
+    (λ c. search needs)
+    (λ c. search needs)
+    (λ c. search needs)
+    (λ c κs. search needs)
+    (λ c. search needs))

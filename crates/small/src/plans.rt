@@ -1,0 +1,166 @@
+// Table 4: plans of random batches from a fixed seed.
+use crate::numbering::INSERTED;
+use crate::numbering::PATTERNS;
+use crate::numbering::SINGLE;
+use crate::numbering::front;
+use crate::numbering::pattern;
+use crate::numbering::tree;
+use crate::show::digit;
+use crate::show::text;
+use batch::plan::Planned;
+use batch::plan::plan;
+
+// How many batches.
+const BATCHES: usize = 2000;
+
+// The most frames of one.
+const FRAMES: usize = 16;
+
+// Words of the longest.
+const WORDS: usize = 256;
+
+// The state after a draw.
+fn moved(s: u64) -> u64 {
+    (s % 2147483648 * 1103515245 + 12345) % 2147483648
+}
+
+// What a state draws below m.
+fn drawn(s: u64, m: usize) -> usize {
+    if m == 0 {
+        return 0;
+    }
+    (s / 65536 % 65536) as usize % m
+}
+
+// The words written so far, and the state.
+struct Draft {
+    at: usize,
+    state: u64,
+}
+
+// Words behind those written, if there is room.
+fn appended(b: &mut [u16], at: usize, t: &[u16]) -> usize {
+    let mut end = at;
+    let mut i = 0;
+    while i < t.len() {
+        if b.len() <= end {
+            return end;
+        }
+        b[end] = t[i];
+        end += 1;
+        i += 1;
+    }
+    end
+}
+
+// A count, then as many pairs.
+fn counted(b: &mut [u16], at: usize, t: &[u16]) -> usize {
+    let n = t.len() / 2;
+    let behind = appended(b, at, &[(n % 65536) as u16]);
+    appended(b, behind, t)
+}
+
+// A kind and pattern k.
+fn headed(b: &mut [u16], at: usize, kind: u16, k: usize) -> usize {
+    let mut steps = [0u16; 6];
+    let n = pattern(k, &mut steps);
+    let behind = appended(b, at, &[kind]);
+    counted(b, behind, front(&steps, n))
+}
+
+// Tree x, with its count.
+fn treed(b: &mut [u16], at: usize, x: usize) -> usize {
+    let mut copied = [0u16; 6];
+    let n = tree(x, &mut copied);
+    counted(b, at, front(&copied, n))
+}
+
+// A frame more.
+fn framed(b: &mut [u16], d: Draft) -> Draft {
+    let kind = moved(d.state);
+    let second = moved(kind);
+    if drawn(kind, 3) == 0 {
+        return Draft {
+            at: headed(b, d.at, 1, drawn(second, PATTERNS)),
+            state: second,
+        };
+    }
+    if drawn(kind, 3) == 2 {
+        return Draft {
+            at: headed(
+                b,
+                d.at,
+                3,
+                SINGLE + drawn(second, PATTERNS - SINGLE) % PATTERNS,
+            ),
+            state: second,
+        };
+    }
+    let third = moved(second);
+    let at = headed(b, d.at, 2, drawn(second, PATTERNS));
+    Draft {
+        at: treed(b, at, drawn(third, INSERTED)),
+        state: third,
+    }
+}
+
+// So many frames.
+fn drafted(b: &mut [u16], frames: usize, state: u64) -> Draft {
+    let mut d = Draft { at: 0, state };
+    let mut k = 0;
+    while k < frames {
+        d = framed(b, d);
+        k += 1;
+    }
+    d
+}
+
+// Two digits of a plan word.
+fn show_word(w: u16) {
+    let n = w as u64;
+    text(&[digit(n / 16), digit(n)]);
+}
+
+// A plan's line, by an output of just its length.
+fn planned(b: &[u16], out: &mut [u16]) {
+    match plan(b, out) {
+        Planned::Refused(_) => text(b"refused"),
+        Planned::Frames(_) => show_words(out),
+    }
+    text(b"\n");
+}
+
+fn show_plan(b: &[u16], frames: usize) {
+    let mut out = [255u16; FRAMES];
+    if FRAMES < frames {
+        return;
+    }
+    planned(b, &mut out[0..frames]);
+}
+
+fn show_words(t: &[u16]) {
+    let mut i = 0;
+    while i < t.len() {
+        show_word(t[i]);
+        i += 1;
+    }
+}
+
+// A batch from a state; the state after it.
+fn batch_from(state: u64) -> u64 {
+    let mut b = [0u16; WORDS];
+    let first = moved(state);
+    let frames = drawn(first, FRAMES) % FRAMES + 1;
+    let d = drafted(&mut b, frames, first);
+    show_plan(front(&b, d.at), frames);
+    d.state
+}
+
+pub(crate) fn table() {
+    let mut s = 20261115;
+    let mut n = 0;
+    while n < BATCHES {
+        s = batch_from(s);
+        n += 1;
+    }
+}

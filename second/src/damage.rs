@@ -1,0 +1,132 @@
+//! Table 3: what a damaged word does to a batch.
+
+use crate::batch::frames;
+use crate::counts::{Count, Counts};
+use crate::refusal::Refusal;
+use std::io::{self, Write};
+
+/// The batches that are damaged; the first is document 01's listing.
+const BATCHES: [&[u16]; 4] = [
+    &[
+        3, 2, 0, 1, 1, 2, //
+        2, 2, 0, 1, 1, 2, 1, 0, 3, //
+        1, 2, 0, 1, 2, 4, //
+        1, 2, 0, 1, 2, 3, //
+        1, 1, 0, 1,
+    ],
+    &[
+        2, 1, 0, 0, 3, 0, 1, 0, 2, 1, 3, //
+        1, 3, 0, 1, 1, 0, 2, 2,
+    ],
+    &[1, 1, 0, 1],
+    &[
+        3, 3, 0, 0, 2, 1, 1, 0, //
+        3, 2, 0, 2, 2, 0, //
+        1, 2, 0, 2, 1, 1,
+    ],
+];
+
+/// What planning a batch answers: its number of frames or a refusal.
+type Answer = Result<usize, Refusal>;
+
+/// Writes table 3: for each word its values, its loss and its doubling.
+pub fn write(out: &mut dyn Write) -> io::Result<Counts> {
+    let mut damaged = 0;
+    for (batch, words) in (1..).zip(BATCHES) {
+        for word in 0..words.len() {
+            let at = format!("{batch} {word}");
+            damaged += write_values(out, &at, words, word)?;
+            damaged += write_one(out, &at, "lost", &lost(words, word))?;
+            damaged += write_one(out, &at, "twice", &twice(words, word))?;
+        }
+    }
+    Ok(vec![Count::new("damaged-batches", damaged)])
+}
+
+/// Tries every value of a word and writes a line for each run of equal
+/// answers; gives the number of batches tried.
+fn write_values(out: &mut dyn Write, at: &str, words: &[u16], word: usize) -> io::Result<usize> {
+    let mut batch = words.to_vec();
+    let mut tried = 0;
+    let mut run: Option<(u16, Answer)> = None;
+    for value in 0..=u16::MAX {
+        batch[word] = value;
+        tried += 1;
+        let answer = frames(&batch);
+        match run {
+            Some((_, same)) if same == answer => {}
+            Some((from, other)) => {
+                write_run(out, at, from, value - 1, other)?;
+                run = Some((value, answer));
+            }
+            None => run = Some((value, answer)),
+        }
+    }
+    if let Some((from, last)) = run {
+        write_run(out, at, from, u16::MAX, last)?;
+    }
+    Ok(tried)
+}
+
+/// Writes the line of one run of values.
+fn write_run(out: &mut dyn Write, at: &str, from: u16, to: u16, answer: Answer) -> io::Result<()> {
+    writeln!(out, "{at} {from} {to} {}", text(answer))
+}
+
+/// Writes the line of one batch with a named damage; gives 1, the batch tried.
+fn write_one(out: &mut dyn Write, at: &str, name: &str, batch: &[u16]) -> io::Result<usize> {
+    writeln!(out, "{at} {name} {}", text(frames(batch)))?;
+    Ok(1)
+}
+
+/// The words without one of them.
+fn lost(words: &[u16], word: usize) -> Vec<u16> {
+    [&words[..word], &words[word + 1..]].concat()
+}
+
+/// The words with one of them standing twice.
+fn twice(words: &[u16], word: usize) -> Vec<u16> {
+    [&words[..=word], &words[word..]].concat()
+}
+
+/// An answer as the table shows it.
+fn text(answer: Answer) -> String {
+    match answer {
+        Ok(frames) => format!("ok {frames}"),
+        Err(refusal) => refusal.to_string(),
+    }
+}
+
+#[cfg(test)]
+mod tests {
+    use super::*;
+
+    #[test]
+    fn the_undamaged_batches_are_accepted() {
+        let found: Vec<Answer> = BATCHES.iter().map(|words| frames(words)).collect();
+        assert_eq!(found, [Ok(5), Ok(2), Ok(1), Ok(3)]);
+    }
+
+    #[test]
+    fn words_are_lost_and_doubled_in_place() {
+        assert_eq!(lost(&[4, 5, 6], 1), [4, 6]);
+        assert_eq!(twice(&[4, 5, 6], 1), [4, 5, 5, 6]);
+    }
+
+    #[test]
+    fn runs_cover_every_value() {
+        let mut out = Vec::new();
+        let tried = write_values(&mut out, "3 0", BATCHES[2], 0).unwrap();
+        assert_eq!(tried, 65_536);
+        let text = String::from_utf8(out).unwrap();
+        let lines: Vec<&str> = text.lines().collect();
+        let expected = [
+            "3 0 0 0 8 6 0",
+            "3 0 1 1 ok 1",
+            "3 0 2 2 9 6 0",
+            "3 0 3 3 6 6 0",
+            "3 0 4 65535 8 6 0",
+        ];
+        assert_eq!(lines, expected);
+    }
+}

@@ -1,0 +1,50 @@
+//! The digest that stands for a row of numbers.
+
+/// The prime below 2 to the power of 32 by which the digest is reduced.
+const MODULUS: u64 = 4_294_967_291;
+
+/// What the digest is multiplied by before it takes a number.
+const FACTOR: u64 = 65_599;
+
+/// A digest of the numbers taken so far; 0 at first.
+#[derive(Clone, Copy, Debug, Default, PartialEq, Eq)]
+pub struct Digest {
+    value: u64,
+}
+
+impl Digest {
+    /// Takes one number.
+    pub fn take(&mut self, number: usize) {
+        self.value = (self.value * FACTOR + number as u64 + 1) % MODULUS;
+    }
+
+    /// Takes each number of a row.
+    pub fn take_all<T: Into<usize> + Copy>(&mut self, row: &[T]) {
+        for &number in row {
+            self.take(number.into());
+        }
+    }
+
+    /// Eight upper-case hexadecimal digits.
+    pub fn text(&self) -> String {
+        format!("{:08X}", self.value)
+    }
+}
+
+#[cfg(test)]
+mod tests {
+    use super::*;
+
+    #[test]
+    fn the_order_and_the_zeros_count() {
+        let of = |row: &[u16]| {
+            let mut digest = Digest::default();
+            digest.take_all(row);
+            digest.text()
+        };
+        assert_eq!(of(&[]), "00000000");
+        assert_eq!(of(&[0]), "00000001");
+        assert_eq!(of(&[0, 0]), "00010040");
+        assert_ne!(of(&[1, 2]), of(&[2, 1]));
+    }
+}

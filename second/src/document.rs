@@ -1,0 +1,141 @@
+//! Documents held in tables: linked, worked on, and written back.
+
+use crate::limits::DOCUMENT_NODES;
+use crate::node_set::NodeSet;
+use crate::pattern::Pattern;
+use crate::placing::selected;
+use crate::refusal::{number, Refusal, ROOM, UPDATE};
+use crate::tree::{Row, Tree};
+use crate::updates::{delete_at, insert_at};
+
+/// A document: two words a node, a mark a node, and how many nodes are used.
+#[derive(Clone, Debug, PartialEq, Eq)]
+pub struct Document {
+    pub words: Vec<u16>,
+    pub marks: Vec<u8>,
+    pub used: usize,
+}
+
+impl Document {
+    /// A byte for each used node: 1 if the pattern selects it, else 0.
+    pub fn read(&self, pattern: &Pattern) -> Vec<u8> {
+        let found = selected(&self.linked(), pattern);
+        (0..self.used).map(|v| u8::from(found.has(v))).collect()
+    }
+
+    /// Removes what the pattern selects and gives the number of nodes newly
+    /// removed; a pattern of one step is refused and changes nothing.
+    pub fn delete(&mut self, pattern: &Pattern) -> Result<usize, Refusal> {
+        if pattern.size() == 1 {
+            return Err(refused(number::DELETE_ROOT, UPDATE));
+        }
+        let mut tree = self.linked();
+        let points = selected(&tree, pattern);
+        let removed = delete_at(&mut tree, points);
+        self.write_back(&tree);
+        Ok(removed)
+    }
+
+    /// Hangs a copy under each node the pattern selects and gives the number of
+    /// copies; without room it is refused and changes nothing.
+    pub fn insert(&mut self, pattern: &Pattern, inserted: &[Row]) -> Result<usize, Refusal> {
+        let mut tree = self.linked();
+        let points: NodeSet = selected(&tree, pattern);
+        if self.used + points.size() * inserted.len() > self.room() {
+            return Err(refused(number::NO_ROOM, ROOM));
+        }
+        let copies = insert_at(&mut tree, points, inserted);
+        self.write_back(&tree);
+        Ok(copies)
+    }
+
+    /// The most nodes that the document can come to use.
+    fn room(&self) -> usize {
+        let rows = self.words.len() / 2;
+        DOCUMENT_NODES.min(rows).min(self.marks.len())
+    }
+
+    /// The used nodes as a linked tree with their removed flags.
+    fn linked(&self) -> Tree {
+        let rows = self.words.chunks(2).take(self.used);
+        let table: Vec<Row> = rows
+            .map(|row| Row {
+                parent: usize::from(row[0]),
+                label: row[1],
+            })
+            .collect();
+        let mut tree = Tree::linked(&table);
+        for number in (0..self.used).filter(|&v| self.marks[v] == 1) {
+            tree.remove(number);
+        }
+        tree
+    }
+
+    /// Writes every node of the tree to its place and uses exactly those.
+    fn write_back(&mut self, tree: &Tree) {
+        for (number, node) in tree.nodes().iter().enumerate() {
+            self.words[2 * number] = node.parent.unwrap_or(0) as u16;
+            self.words[2 * number + 1] = node.label;
+            self.marks[number] = u8::from(node.removed);
+        }
+        self.used = tree.nodes().len();
+    }
+}
+
+/// A refusal of a document's update; its place is always 0.
+fn refused(number: usize, table: usize) -> Refusal {
+    Refusal {
+        number,
+        table,
+        place: 0,
+    }
+}
+
+#[cfg(test)]
+mod tests {
+    use super::*;
+    use crate::examples::{chain, pattern};
+
+    /// The chain a, b, b with room for three more nodes.
+    fn abb() -> Document {
+        Document {
+            words: vec![0, 1, 0, 2, 1, 2, 0, 0, 0, 0, 0, 0],
+            marks: vec![0, 0, 0, 9, 9, 9],
+            used: 3,
+        }
+    }
+
+    #[test]
+    fn copies_stand_behind_the_used_nodes_in_rising_number() {
+        let mut document = abb();
+        assert_eq!(document.insert(&pattern("a//b"), &chain("c")), Ok(2));
+        let words = [0, 1, 0, 2, 1, 2, 1, 3, 2, 3, 0, 0];
+        assert_eq!(document.words, words);
+        assert_eq!(document.marks, [0, 0, 0, 0, 0, 9]);
+        assert_eq!(document.used, 5);
+    }
+
+    #[test]
+    fn an_insert_without_room_changes_nothing() {
+        let mut document = abb();
+        let refusal = Refusal {
+            number: 11,
+            table: 4,
+            place: 0,
+        };
+        let answer = document.insert(&pattern("a//b"), &chain("cd"));
+        assert_eq!(answer, Err(refusal));
+        assert_eq!(document, abb());
+    }
+
+    #[test]
+    fn a_delete_counts_what_it_newly_removes() {
+        let mut document = abb();
+        assert_eq!(document.delete(&pattern("a/b/b")), Ok(1));
+        assert_eq!(document.delete(&pattern("a//b")), Ok(1));
+        assert_eq!(document.marks, [0, 1, 1, 9, 9, 9]);
+        assert_eq!(document.words, abb().words);
+        assert_eq!(document.read(&pattern("a//b")), [0, 0, 0]);
+        assert!(document.delete(&pattern("a")).is_err());
+    }
+}

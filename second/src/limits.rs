@@ -1,0 +1,16 @@
+//! The limits of document 01, each named once.
+
+/// A pattern has at most this many steps.
+pub const STEPS: usize = 64;
+
+/// An inserted tree has at most this many nodes.
+pub const INSERTED_NODES: usize = 256;
+
+/// A batch has at most this many frames.
+pub const FRAMES: usize = 128;
+
+/// A batch has at most this many words.
+pub const BATCH_WORDS: usize = 16_384;
+
+/// A document has at most this many used nodes.
+pub const DOCUMENT_NODES: usize = 4_096;

@@ -1,0 +1,109 @@
+//! Sloefertand's second program: four tables, found by trying all small trees.
+
+mod batch;
+mod classes;
+mod counts;
+mod damage;
+mod digest;
+mod document;
+mod documents;
+#[cfg(test)]
+mod examples;
+mod limits;
+mod node_set;
+mod numbering;
+mod pairs;
+mod pattern;
+mod placing;
+mod plans;
+mod refusal;
+mod tree;
+mod updates;
+#[cfg(test)]
+mod verdict;
+
+use numbering::Numbering;
+use pairs::Pairs;
+use std::env;
+use std::ffi::OsString;
+use std::io::{self, BufWriter, Write};
+use std::process::ExitCode;
+
+const USAGE: &str = "usage: second [pairs | documents | damage | plans | counts]";
+
+/// What is asked for.
+#[derive(Clone, Copy, PartialEq, Eq)]
+enum Wanted {
+    All,
+    Pairs,
+    Documents,
+    Damage,
+    Plans,
+    Counts,
+}
+
+/// What the arguments ask for, if they make sense.
+fn wanted(arguments: &[OsString]) -> Option<Wanted> {
+    match arguments {
+        [] => Some(Wanted::All),
+        [one] => match one.to_str()? {
+            "pairs" => Some(Wanted::Pairs),
+            "documents" => Some(Wanted::Documents),
+            "damage" => Some(Wanted::Damage),
+            "plans" => Some(Wanted::Plans),
+            "counts" => Some(Wanted::Counts),
+            _ => None,
+        },
+        _ => None,
+    }
+}
+
+/// Writes the four tables in order and gives all their counts.
+fn write_all(numbering: &Numbering, out: &mut dyn Write) -> io::Result<counts::Counts> {
+    let pairs = Pairs::tried(numbering);
+    let mut counts = pairs.write(out)?;
+    counts.extend(documents::write(numbering, out)?);
+    counts.extend(damage::write(out)?);
+    counts.extend(plans::write(numbering, &pairs, out)?);
+    Ok(counts)
+}
+
+/// Writes what is asked for.
+fn run(wanted: Wanted, out: &mut dyn Write) -> io::Result<()> {
+    let numbering = Numbering::full();
+    match wanted {
+        Wanted::All => {
+            write_all(&numbering, out)?;
+        }
+        Wanted::Pairs => {
+            Pairs::tried(&numbering).write(out)?;
+        }
+        Wanted::Documents => {
+            documents::write(&numbering, out)?;
+        }
+        Wanted::Damage => {
+            damage::write(out)?;
+        }
+        Wanted::Plans => {
+            plans::write(&numbering, &Pairs::tried(&numbering), out)?;
+        }
+        Wanted::Counts => counts::write(&write_all(&numbering, &mut io::sink())?, out)?,
+    }
+    out.flush()
+}
+
+fn main() -> ExitCode {
+    let arguments: Vec<OsString> = env::args_os().skip(1).collect();
+    let Some(wanted) = wanted(&arguments) else {
+        eprintln!("{USAGE}");
+        return ExitCode::from(2);
+    };
+    let mut out = BufWriter::new(io::stdout().lock());
+    match run(wanted, &mut out) {
+        Ok(()) => ExitCode::SUCCESS,
+        Err(error) => {
+            eprintln!("second: {error}");
+            ExitCode::FAILURE
+        }
+    }
+}
