@@ -72,8 +72,18 @@ mod sloefertand {
                 update: *const u16,
                 update_words: usize,
             ) -> Answer;
-            pub fn sloefertand_step(batch: *const u16, batch_words: usize, number: usize, at: usize) -> Answer;
-            pub fn sloefertand_plan(batch: *const u16, batch_words: usize, plan: *mut u16, plan_words: usize) -> Answer;
+            pub fn sloefertand_step(
+                batch: *const u16,
+                batch_words: usize,
+                number: usize,
+                at: usize,
+            ) -> Answer;
+            pub fn sloefertand_plan(
+                batch: *const u16,
+                batch_words: usize,
+                plan: *mut u16,
+                plan_words: usize,
+            ) -> Answer;
         }
     }
 
@@ -81,7 +91,13 @@ mod sloefertand {
     // never null, always aligned, as long as it says and, where it is `&mut`, overlaps no other.
 
     /// Writes one byte a used node to `row`: 1 where the pattern selects it, else 0.
-    pub fn read(pattern: &[u16], rows: &[u16], marks: &[u8], used: usize, row: &mut [u8]) -> Result<(), Refusal> {
+    pub fn read(
+        pattern: &[u16],
+        rows: &[u16],
+        marks: &[u8],
+        used: usize,
+        row: &mut [u8],
+    ) -> Result<(), Refusal> {
         let answer = unsafe {
             exported::sloefertand_read(
                 pattern.as_ptr(),
@@ -99,7 +115,11 @@ mod sloefertand {
     }
 
     /// The nodes of the smallest witness, which is written to `witness`; 0 where the read and the delete do not conflict.
-    pub fn delete_verdict(read: &[u16], update: &[u16], witness: &mut [u16]) -> Result<usize, Refusal> {
+    pub fn delete_verdict(
+        read: &[u16],
+        update: &[u16],
+        witness: &mut [u16],
+    ) -> Result<usize, Refusal> {
         let answer = unsafe {
             exported::sloefertand_delete_verdict(
                 read.as_ptr(),
@@ -115,8 +135,14 @@ mod sloefertand {
 
     /// Whether the read and the delete conflict, or the delete takes place below a node that is read.
     pub fn deep_delete_verdict(read: &[u16], update: &[u16]) -> Result<bool, Refusal> {
-        let answer =
-            unsafe { exported::sloefertand_deep_delete_verdict(read.as_ptr(), read.len(), update.as_ptr(), update.len()) };
+        let answer = unsafe {
+            exported::sloefertand_deep_delete_verdict(
+                read.as_ptr(),
+                read.len(),
+                update.as_ptr(),
+                update.len(),
+            )
+        };
         answer.values().map(|values| values.first == 1)
     }
 
@@ -127,8 +153,9 @@ mod sloefertand {
 
     /// The number of frames; the plan is written to `plan`, a word a frame.
     pub fn plan(batch: &[u16], plan: &mut [u16]) -> Result<usize, Refusal> {
-        let answer =
-            unsafe { exported::sloefertand_plan(batch.as_ptr(), batch.len(), plan.as_mut_ptr(), plan.len()) };
+        let answer = unsafe {
+            exported::sloefertand_plan(batch.as_ptr(), batch.len(), plan.as_mut_ptr(), plan.len())
+        };
         answer.values().map(|values| values.first)
     }
 }
@@ -150,7 +177,10 @@ fn show_plan(batch: &[u16]) -> Result<(), Refusal> {
     let mut at = 0;
     for (number, word) in plan[..frames].iter().enumerate() {
         let frame = sloefertand::step(batch, number, at)?;
-        println!("{} of {} steps and {} nodes: {word}", kinds[frame.first], frame.third, frame.fourth);
+        println!(
+            "{} of {} steps and {} nodes: {word}",
+            kinds[frame.first], frame.third, frame.fourth
+        );
         at = frame.second;
     }
     Ok(())
@@ -220,6 +250,9 @@ fn show_all() -> Result<(), Refusal> {
 
 fn main() {
     if let Err(refusal) = show_all() {
-        println!("refusal {}, table {}, place {}", refusal.number, refusal.table, refusal.place);
+        println!(
+            "refusal {}, table {}, place {}",
+            refusal.number, refusal.table, refusal.place
+        );
     }
 }
