@@ -1,0 +1,80 @@
+-- Two answers with their buffers that meet a promise are the same.
+use Prim.Native.Nat.{ℕ, _*_}
+use mathlib.Core.Path.{_≡_, refl, sym, ap, subst, _∙_}
+use mathlib.Core.List.{List}
+use lib.ListN.{drop}
+use Rattle.tables.specs.Documents.{Doc}
+use Rattle.plain.specs.Plain.{PlainRead}
+use Rattle.plain.proofs.Promise.{plain-one}
+use Rattle.reading.specs.Reading.{Read}
+use Rattle.reading.proofs.Laws.{read-one}
+use Rattle.updating.specs.Updating.{Delete, Insert}
+use Rattle.updating.proofs.Settled.{delete-one, insert-one}
+use Rattle.conflict.specs.Conflict.{Update}
+use Rattle.verdict.specs.declared.node.Verdict.{Verdict}
+use Rattle.verdict.specs.declared.node.Verdict.the-variants as verdict
+use Rattle.verdict.specs.Promise.{NodeVerdict, witnessNodes, DeepVerdict}
+use Rattle.verdict.proofs.Promise.{verdict-one, deep-one}
+use Rattle.batch.specs.Batch.{Plan}
+use Rattle.batch.proofs.Laws.{plan-one}
+use Rattle.lines.specs.Lines.{ReadAs, WrittenAs}
+use Rattle.lines.proofs.Promise.{read-one as line-one, write-one}
+use Rattle.printer.specs.Printer.{PrintedAs}
+use Rattle.printer.proofs.Settled.{printed-one}
+use Rattle.sloefertand.specs.Answers.{Told, ofChecked, ofDeleted, ofInserted, ofVerdict, ofDeeply, ofPlanned, ofParsed, ofSpelled, ofPrinted}
+use Rattle.sloefertand.specs.declared.answer.Answer.{Answer}
+
+-- where the promises settle the answer and something more by its numbers, so do the numbers
+told-one : {E : Type 0} {numbers : E → Answer} {P Q : E → Type 0} (more : Answer → Type 0) {a b : Answer} →
+    ((x y : E) → P x → Q y → (x ≡ y) × more (numbers x)) → Told numbers P a → Told numbers Q b → (a ≡ b) × more a
+told-one {numbers = numbers} more one f g =
+    let both = one (f .answer) (g .answer) (f .promised) (g .promised) in
+    (f .shown ∙ ap numbers (both .0) ∙ sym (g .shown), subst more (sym (f .shown)) (both .1))
+
+module _ {a b : Answer} (before one two : List ℕ) where
+  pub plain-told : (p t : List ℕ) → Told ofChecked (PlainRead p t before one) a → Told ofChecked (PlainRead p t before two) b → (a ≡ b) × (one ≡ two)
+  plain-told p t = told-one (λ _. one ≡ two) (λ x y. plain-one)
+
+  pub read-told : (p : List ℕ) (d : Doc) → Told ofChecked (Read p 1 d before one) a → Told ofChecked (Read p 1 d before two) b → (a ≡ b) × (one ≡ two)
+  read-told p d = told-one (λ _. one ≡ two) (λ x y f g. let both = read-one f g in (both .1, both .0))
+
+  pub delete-told : (p : List ℕ) (d : Doc) → Told ofDeleted (Delete p d before one) a → Told ofDeleted (Delete p d before two) b → (a ≡ b) × (one ≡ two)
+  delete-told p d = told-one (λ _. one ≡ two) (λ x y. delete-one)
+
+  -- all behind the witness, whose words are free
+  pub verdict-told : (r : List ℕ) (u : Update) → Told ofVerdict (NodeVerdict r u before one) a → Told ofVerdict (NodeVerdict r u before two) b
+      → (a ≡ b) × (drop (2 * a .first) one ≡ drop (2 * a .first) two)
+  verdict-told r u = told-one (λ (c : Answer). drop (2 * c .first) one ≡ drop (2 * c .first) two) by-nodes
+    where
+      nodes : (x : Verdict) → witnessNodes x ≡ ofVerdict x .first
+      nodes verdict.Clear = refl
+      nodes (verdict.Conflict n) = refl
+      nodes (verdict.Refused r) = refl
+
+      by-nodes : (x y : Verdict) → NodeVerdict r u before one x → NodeVerdict r u before two y
+          → (x ≡ y) × (drop (2 * ofVerdict x .first) one ≡ drop (2 * ofVerdict x .first) two)
+      by-nodes x y f g =
+          let both = verdict-one r u before one two x y f g in
+          (both .0, rw (nodes x) at (both .1))
+
+  pub plan-told : (words : List ℕ) → Told ofPlanned (Plan words before one) a → Told ofPlanned (Plan words before two) b → (a ≡ b) × (one ≡ two)
+  plan-told words = told-one (λ _. one ≡ two) (plan-one words before)
+
+  pub line-told : (s : List ℕ) (line : ℕ) → Told ofParsed (ReadAs s line before one) a → Told ofParsed (ReadAs s line before two) b → (a ≡ b) × (one ≡ two)
+  line-told s line = told-one (λ _. one ≡ two) (line-one s line before one two)
+
+  pub spelled-told : (ws : List ℕ) → Told ofSpelled (WrittenAs ws before one) a → Told ofSpelled (WrittenAs ws before two) b → (a ≡ b) × (one ≡ two)
+  spelled-told ws = told-one (λ _. one ≡ two) (write-one ws before one two)
+
+  pub printed-told : (s : List ℕ) → Told ofPrinted (PrintedAs s before one) a → Told ofPrinted (PrintedAs s before two) b → (a ≡ b) × (one ≡ two)
+  printed-told s = told-one (λ _. one ≡ two) (printed-one s before one two)
+
+pub insert-told : {a b : Answer} (p x : List ℕ) (d : Doc) (rows₀ marks₀ rows₁ marks₁ rows₂ marks₂ : List ℕ)
+    → Told ofInserted (Insert p x d rows₀ marks₀ rows₁ marks₁) a → Told ofInserted (Insert p x d rows₀ marks₀ rows₂ marks₂) b
+    → (a ≡ b) × ((rows₁ ≡ rows₂) × (marks₁ ≡ marks₂))
+insert-told p x d rows₀ marks₀ rows₁ marks₁ rows₂ marks₂ =
+    told-one (λ _. (rows₁ ≡ rows₂) × (marks₁ ≡ marks₂)) (λ x y f g. let all = insert-one f g in (all .0, (all .1, all .2)))
+
+-- a deep verdict has no buffer
+pub deep-told : {a b : Answer} (r : List ℕ) (u : Update) → Told ofDeeply (DeepVerdict r u) a → Told ofDeeply (DeepVerdict r u) b → a ≡ b
+deep-told {a} {b} r u f g = told-one (λ _. ℕ) (λ x y h k. (deep-one r u x y h k, 0)) f g .0

@@ -1,0 +1,14 @@
+-- The numbers of the walker's step.
+use borrow.Author.Needs.{needs}
+use Rattle.sloefertand.specs.Answers.{ofStepped}
+use Rattle.sloefertand.proofs.Shown.{of-promise}
+use Rattle.sloefertand.proofs.batches.sloefertand_step.Statement.{statement}
+use Rattle.sloefertand.proofs.batches.sloefertand_step.Tie as tie
+
+pub sloefertand-step-spec : {M : Type 1} → statement M
+sloefertand-step-spec =
+    tie.close
+    (tie.spec
+    (λ c κs. search needs)
+    (λ c κs. search needs)
+    (λ c. of-promise ofStepped (c .before .step .ensures) (c .stepped .ensures)))

@@ -1,0 +1,14 @@
+-- The numbers of the document's check.
+use borrow.Author.Needs.{needs}
+use Rattle.sloefertand.specs.Answers.{ofChecked}
+use Rattle.sloefertand.proofs.Shown.{of-promise}
+use Rattle.sloefertand.proofs.checking.sloefertand_check_document.Statement.{statement}
+use Rattle.sloefertand.proofs.checking.sloefertand_check_document.Tie as tie
+
+pub sloefertand-check-document-spec : {M : Type 1} → statement M
+sloefertand-check-document-spec =
+    tie.close
+    (tie.spec
+    (λ c κs. search needs)
+    (λ c κs. search needs)
+    (λ c. of-promise ofChecked (c .before .document .ensures) (c .checked .ensures)))

@@ -1,0 +1,26 @@
+// Walking a batch, and its plan.
+use crate::answer::Answer;
+use crate::numbers::planned;
+use crate::numbers::stepped;
+use batch::plan::plan;
+use walker::step;
+ghost use mathlib.Core.Path.{_≡_};
+ghost use Rattle.walker.specs.Walker.{stepAt};
+ghost use Rattle.batch.specs.Batch.{Plan};
+ghost use Rattle.sloefertand.specs.Answers.{Told, ofStepped, ofPlanned};
+
+// Frame n at a place of the batch. First: its kind, 0 where none is left; second: where it ends; third: its steps; fourth: its nodes.
+#[no_mangle]
+pub extern "C" fn sloefertand_step(b: &[u16], n: usize, at: usize) -> Answer
+    ensures { λ a. ⌜ a ≡ ofStepped (stepAt (now (b .entry)) n at) ⌝ }
+{
+    stepped(step(b, n, at))
+}
+
+// The plan of a batch, one word a frame. First: the frames.
+#[no_mangle]
+pub extern "C" fn sloefertand_plan(b: &[u16], out: &mut [u16]) -> Answer
+    ensures { λ a. ⌜ Told ofPlanned (Plan (now (b .entry)) (now (out .entry)) (now (out .exit))) a ⌝ }
+{
+    planned(plan(b, out))
+}

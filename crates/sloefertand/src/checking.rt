@@ -1,0 +1,34 @@
+// The checks of patterns, trees and documents. None has a value.
+use crate::answer::Answer;
+use crate::numbers::checked;
+use tables::checks::document;
+use tables::checks::pattern;
+use tables::checks::tree;
+ghost use mathlib.Core.Path.{_≡_};
+ghost use Rattle.tables.specs.Documents.{doc};
+ghost use Rattle.tables.specs.Checks.{patternCheck, treeCheck, documentCheck};
+ghost use Rattle.sloefertand.specs.Answers.{ofChecked};
+
+// A pattern of at most `limit` steps: refusals 1, 2, 3, at this table.
+#[no_mangle]
+pub extern "C" fn sloefertand_check_pattern(p: &[u16], limit: usize, table: usize) -> Answer
+    ensures { λ a. ⌜ a ≡ ofChecked (patternCheck (now (p .entry)) limit table) ⌝ }
+{
+    checked(pattern(p, limit, table))
+}
+
+// A tree of at most `limit` nodes: refusals 1, 2, then node by node 4 before 5, at this table.
+#[no_mangle]
+pub extern "C" fn sloefertand_check_tree(t: &[u16], limit: usize, table: usize) -> Answer
+    ensures { λ a. ⌜ a ≡ ofChecked (treeCheck (now (t .entry)) limit table) ⌝ }
+{
+    checked(tree(t, limit, table))
+}
+
+// A document: 12 for the used count, node by node 4 then 5, 12 for marks.
+#[no_mangle]
+pub extern "C" fn sloefertand_check_document(rows: &[u16], marks: &[u8], used: usize) -> Answer
+    ensures { λ a. ⌜ a ≡ ofChecked (documentCheck (doc (now (rows .entry)) (now (marks .entry)) used)) ⌝ }
+{
+    checked(document(rows, marks, used))
+}

@@ -1,0 +1,8 @@
+// The library for C and Rust: every public operation over lent slices and plain numbers, with one form of answer.
+pub mod answer;
+pub mod batches;
+pub mod checking;
+pub mod documents;
+mod numbers;
+pub mod texts;
+pub mod verdicts;

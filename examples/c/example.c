@@ -1,0 +1,110 @@
+/* What a program in C does with the library: it plans a batch, asks for verdicts, reads a document and meets a refusal.
+ * examples/run builds and runs it. Names a to e are the labels 1 to 5. */
+#include <stdint.h>
+#include <stdio.h>
+
+#include "sloefertand.h"
+
+#define COUNT(array) (sizeof(array) / sizeof((array)[0]))
+
+/* A pattern: axis and label of each step. */
+static const uint16_t a_b[] = {0, 1, 1, 2};         /* a/b */
+static const uint16_t a_b_c[] = {0, 1, 1, 2, 1, 3}; /* a/b/c */
+static const uint16_t a_any_c[] = {0, 1, 2, 3};     /* a//c */
+static const uint16_t only_a[] = {0, 1};            /* a */
+
+/* Whether a call was refused, which is said where it was. */
+static int refused(sloefertand_answer answer) {
+    if (answer.refusal == 0) {
+        return 0;
+    }
+    printf("refusal %zu, table %zu, place %zu\n", answer.refusal, answer.table, answer.place);
+    return 1;
+}
+
+/* The plan of a batch, a line a frame: the walker gives the frames, the plan their words. */
+static void show_plan(const uint16_t *batch, size_t words) {
+    static const char *const kinds[] = {"", "read", "insert", "delete"};
+    uint16_t plan[SLOEFERTAND_FRAMES];
+    sloefertand_answer planned = sloefertand_plan(batch, words, plan, COUNT(plan));
+    if (refused(planned)) {
+        return;
+    }
+    printf("%zu frames\n", planned.first);
+    size_t at = 0;
+    for (size_t number = 0; number < planned.first; number++) {
+        sloefertand_answer frame = sloefertand_step(batch, words, number, at);
+        printf("%s of %zu steps and %zu nodes: %u\n", kinds[frame.first], frame.third, frame.fourth, (unsigned)plan[number]);
+        at = frame.second;
+    }
+}
+
+/* Whether a read and a delete conflict, with the witness, a node a line. */
+static void show_verdict(const uint16_t *read, size_t read_words, const uint16_t *update, size_t update_words) {
+    uint16_t witness[SLOEFERTAND_WITNESS_WORDS];
+    sloefertand_answer verdict =
+        sloefertand_delete_verdict(read, read_words, update, update_words, witness, COUNT(witness));
+    if (refused(verdict)) {
+        return;
+    }
+    if (verdict.first == 0) {
+        printf("no conflict\n");
+        return;
+    }
+    printf("conflict, shown by %zu nodes\n", verdict.first);
+    for (size_t node = 0; node < verdict.first; node++) {
+        printf("node %zu: parent %u, label %u\n", node, (unsigned)witness[2 * node], (unsigned)witness[2 * node + 1]);
+    }
+}
+
+/* The deep verdict of a read and a delete. */
+static void show_deep(const uint16_t *read, size_t read_words, const uint16_t *update, size_t update_words) {
+    sloefertand_answer deep = sloefertand_deep_delete_verdict(read, read_words, update, update_words);
+    if (!refused(deep)) {
+        printf("deep verdict: %s\n", deep.first == 1 ? "yes" : "no");
+    }
+}
+
+/* The nodes of a document that a pattern selects. */
+static void show_read(const uint16_t *pattern, size_t pattern_words) {
+    /* a over b and c, and c below that b */
+    static const uint16_t rows[] = {0, 1, 0, 2, 0, 3, 1, 3};
+    static const uint8_t marks[] = {0, 0, 0, 0};
+    uint8_t row[COUNT(marks)];
+    if (refused(sloefertand_read(pattern, pattern_words, rows, COUNT(rows), marks, COUNT(marks), COUNT(marks), row, COUNT(row)))) {
+        return;
+    }
+    printf("selected:");
+    for (size_t node = 0; node < COUNT(row); node++) {
+        if (row[node] == 1) {
+            printf(" %zu", node);
+        }
+    }
+    printf("\n");
+}
+
+int main(void) {
+    static const uint16_t batch[] = {
+        3, 2, 0, 1, 1, 2,          /* delete a/b */
+        2, 2, 0, 1, 1, 2, 1, 0, 3, /* insert c at a/b */
+        1, 2, 0, 1, 2, 4,          /* read a//d */
+        1, 2, 0, 1, 2, 3,          /* read a//c */
+        1, 1, 0, 1,                /* read a */
+    };
+    printf("the plan of a batch\n");
+    show_plan(batch, COUNT(batch));
+
+    printf("\nread a//c, delete a/b\n");
+    show_verdict(a_any_c, COUNT(a_any_c), a_b, COUNT(a_b));
+
+    printf("\nread a/b, delete a/b/c\n");
+    show_verdict(a_b, COUNT(a_b), a_b_c, COUNT(a_b_c));
+    show_deep(a_b, COUNT(a_b), a_b_c, COUNT(a_b_c));
+
+    printf("\nread a//c of a document\n");
+    show_read(a_any_c, COUNT(a_any_c));
+
+    printf("\nread a//c, delete a\n");
+    show_verdict(a_any_c, COUNT(a_any_c), only_a, COUNT(only_a));
+    return 0;
+}

@@ -1,0 +1,175 @@
+/*
+ * Sloefertand for C and C++: reading and updating a tree held in tables, conflict verdicts, and the plan of a batch.
+ * Link with libsloefertand.a. The library has no state and no heap, prints nothing and always returns: calls on several
+ * threads are fine where no output is shared.
+ *
+ * BUFFERS
+ * A buffer is a pointer and, behind it, its length in elements (uint16_t words or bytes, not sizeof). The caller answers for
+ * these, for nothing can test them:
+ *  - the pointer is not null, also where the length is 0: pass the address of any element there;
+ *  - it is aligned for its element;
+ *  - so many elements can be read and, where the parameter is not const, written;
+ *  - a buffer that is not const overlaps no other buffer of the call, and nobody else touches it during the call.
+ * What stands in the buffers is free: each call takes any content, any length and any number, and answers or refuses.
+ * An output that is too short is refused by number 7; no call writes past a length. Elements behind a result keep their
+ * content, and a refusal leaves every buffer as it was.
+ *
+ * TABLES
+ * A pattern has two words a step, axis and label: axis 0 for the first step, then 1 (child) or 2 (descendant); label 0 stands
+ * for any name. A tree has two words a node, parent and label: the root is node 0 with parent 0, every later node has a parent
+ * of a smaller number, and no label is 0. A document is a tree's words, a mark byte a node (0 present, 1 removed) and the number
+ * of nodes in use. A batch is frames in a row: kind (1 read, 2 insert, 3 delete), number of steps, the steps and, for an insert,
+ * number of nodes and the nodes.
+ *
+ * REFUSALS
+ *   number                                                                          place
+ *    1  no words, or an odd number of them; in a frame, a count of 0                0
+ *    2  more steps or nodes than the limit                                          0
+ *    3  a wrong axis                                                                step
+ *    4  a wrong parent                                                              node
+ *    5  a tree label 0                                                              node
+ *    6  a delete of one step                                                        0
+ *    7  an output that is too short                                                 0
+ *    8  a frame whose kind is not 1, 2 or 3                                         frame
+ *    9  a frame that ends early                                                     frame
+ *   10  over 128 frames or 16,384 words                                             frame, 0 for words
+ *   11  an insert without room                                                      0
+ *   12  a wrong used count or mark                                                  0
+ *   13  a malformed line                                                            line
+ * Steps, nodes and frames are counted from 0, lines from 1. The table at fault: 1 read, 2 update, 3 inserted tree, 4 output or
+ * room, 5 document, 6 batch. In a batch the table is 6 and the place the frame, except for 7 (table 4, place 0) and for words.
+ * Each function names its refusals in the order in which it looks for them; the first that applies is given.
+ */
+#ifndef SLOEFERTAND_H
+#define SLOEFERTAND_H
+
+#include <stddef.h>
+#include <stdint.h>
+
+#ifdef __cplusplus
+extern "C" {
+#endif
+
+/* The limits. */
+#define SLOEFERTAND_STEPS 64u           /* steps of a pattern */
+#define SLOEFERTAND_TREE_NODES 256u     /* nodes of an inserted tree */
+#define SLOEFERTAND_USED_NODES 4096u    /* nodes in use of a document */
+#define SLOEFERTAND_PLAIN_STEPS 8u      /* steps and nodes of a plain reading */
+#define SLOEFERTAND_PLAIN_NODES 16u
+#define SLOEFERTAND_FRAMES 128u         /* frames and words of a batch */
+#define SLOEFERTAND_BATCH_WORDS 16384u
+#define SLOEFERTAND_LINE_DIGITS 2572u   /* digits of a line */
+#define SLOEFERTAND_WITNESS_WORDS 254u  /* words with room for the witness of any verdict */
+#define SLOEFERTAND_PLAN_BYTES 1664u    /* bytes with room for any printed plan */
+
+/* What every call returns. */
+typedef struct sloefertand_answer {
+    size_t refusal; /* 0, or the number of the refusal */
+    size_t table;   /* of a refusal, else 0 */
+    size_t place;   /* of a refusal, else 0 */
+    size_t first;   /* the values that the function names; 0 where it names none, and in a refusal */
+    size_t second;
+    size_t third;
+    size_t fourth;
+} sloefertand_answer;
+
+/* The library is built for machines of 64 bits. */
+typedef char sloefertand_needs_64_bits[sizeof(size_t) == 8 ? 1 : -1];
+
+/* CHECKS. No value: refusal 0 says that the table is right. */
+
+/* A pattern of at most `limit` steps. `table` is the table that a refusal shall name. Refusals 1, 2, 3. */
+sloefertand_answer sloefertand_check_pattern(const uint16_t *pattern, size_t pattern_words, size_t limit, size_t table);
+
+/* A tree of at most `limit` nodes, with the same `table`. Refusals 1, 2, then for each node 4 and 5. */
+sloefertand_answer sloefertand_check_tree(const uint16_t *tree, size_t tree_words, size_t limit, size_t table);
+
+/* A document. Refusals, all of table 5: 12 where `used` is 0, over 4,096, over half of the words or over the marks; for each
+ * node 4 and 5; 12 for the marks (not 0 or 1, a removed root, a present node below a removed one). Nodes behind `used` are
+ * not looked at. */
+sloefertand_answer sloefertand_check_document(const uint16_t *rows, size_t rows_words, const uint8_t *marks, size_t marks_bytes,
+                                              size_t used);
+
+/* DOCUMENTS */
+
+/* Writes a byte a node in use to `row`: 1 where the pattern selects the node, else 0. No value.
+ * Refusals: the document's (12, 4, 5, 12), the pattern's (1, 2, 3 of table 1), 7 where `row` has fewer bytes than `used`. */
+sloefertand_answer sloefertand_read(const uint16_t *pattern, size_t pattern_words, const uint16_t *rows, size_t rows_words,
+                                    const uint8_t *marks, size_t marks_bytes, size_t used, uint8_t *row, size_t row_bytes);
+
+/* The same for a bare tree of at most 16 nodes and a pattern of at most 8 steps, by a slow and simple way. No value.
+ * Refusals: the tree's (1, 2, 4, 5 of table 5), the pattern's (1, 2, 3 of table 1), 7. */
+sloefertand_answer sloefertand_plain_reading(const uint16_t *pattern, size_t pattern_words, const uint16_t *tree,
+                                             size_t tree_words, uint8_t *row, size_t row_bytes);
+
+/* Marks each node that the pattern selects, and all nodes below it, as removed. first: how many were present before.
+ * Refusals: the document's, the pattern's (1, 2, 3 of table 2), 6 of table 2. */
+sloefertand_answer sloefertand_delete(const uint16_t *pattern, size_t pattern_words, const uint16_t *rows, size_t rows_words,
+                                      uint8_t *marks, size_t marks_bytes, size_t used);
+
+/* Writes a copy of `tree` below each node that the pattern selects, in rising order, behind the nodes in use, with mark 0.
+ * first: the copies. second: the new number of nodes in use, to be passed from then on.
+ * Refusals: the document's, the pattern's (1, 2, 3 of table 2), the tree's (1, 2, 4, 5 of table 3, at most 256 nodes), 11 of
+ * table 4 where the copies would pass 4,096 nodes, half of the words or the marks. */
+sloefertand_answer sloefertand_insert(const uint16_t *pattern, size_t pattern_words, const uint16_t *tree, size_t tree_words,
+                                      uint16_t *rows, size_t rows_words, uint8_t *marks, size_t marks_bytes, size_t used);
+
+/* VERDICTS: can the update change what the read selects, in any document at all? */
+
+/* A read and a delete. first: 0 where no document shows a difference, and `witness` stays; else the nodes of a smallest document
+ * that shows one, written to `witness` as a tree of 2 * first words.
+ * Refusals: the read's (1, 2, 3 of table 1), the update's (1, 2, 3 of table 2), 6 of table 2, then 7 where `witness` has fewer
+ * than 2 * (steps of both patterns - 1) words, also where there is no conflict. SLOEFERTAND_WITNESS_WORDS are always enough. */
+sloefertand_answer sloefertand_delete_verdict(const uint16_t *read, size_t read_words, const uint16_t *update,
+                                              size_t update_words, uint16_t *witness, size_t witness_words);
+
+/* A read and an insert of `tree`. first and `witness`: as above.
+ * Refusals: the read's, the update's, the tree's (1, 2, 4, 5 of table 3), 7. */
+sloefertand_answer sloefertand_insert_verdict(const uint16_t *read, size_t read_words, const uint16_t *update,
+                                              size_t update_words, const uint16_t *tree, size_t tree_words, uint16_t *witness,
+                                              size_t witness_words);
+
+/* Also asks about what lies below the nodes that are read. first: 1 where the two conflict, or where in some document the update
+ * takes place below a node that is read; else 0. Refusals: those of the verdict, without 7. */
+sloefertand_answer sloefertand_deep_delete_verdict(const uint16_t *read, size_t read_words, const uint16_t *update,
+                                                   size_t update_words);
+
+sloefertand_answer sloefertand_deep_insert_verdict(const uint16_t *read, size_t read_words, const uint16_t *update,
+                                                   size_t update_words, const uint16_t *tree, size_t tree_words);
+
+/* BATCHES */
+
+/* The frame at word `at` of the batch, as frame `number`. Begin with 0 and 0; go on with number + 1 and at = second.
+ * first: its kind, or 0 where the batch has ended. second: the word at which it ends. third: its steps, which begin at word
+ * at + 2. fourth: its nodes, whose words are the last 2 * fourth before second.
+ * Refusals, of table 6: 10 where the batch has too many words, at every call; for the frame 10, 8, 9, 1, 2, 9, 3, 6 and, for an
+ * insert, 9, 1, 2, 9, 4, 5. */
+sloefertand_answer sloefertand_step(const uint16_t *batch, size_t batch_words, size_t number, size_t at);
+
+/* Writes a word a frame to `plan`: for an update its number among the updates, from 1; for a read its slot, the number of the
+ * nearest earlier update that conflicts with it, or 0. first: the frames.
+ * Refusals: 10 for words, then those of each frame in turn, as above; then 7. SLOEFERTAND_FRAMES words are always enough. */
+sloefertand_answer sloefertand_plan(const uint16_t *batch, size_t batch_words, uint16_t *plan, size_t plan_words);
+
+/* LINES: four upper-case hexadecimal digits a word, the most significant first. */
+
+/* Reads one line, without its line feed, into `words`. first: the words. `number` is the place of a refusal 13.
+ * Refusals: 13 of table 6 where the line is empty, has over 2,572 digits, a number of digits that 4 does not divide, or another
+ * character; then 7. */
+sloefertand_answer sloefertand_read_line(const uint8_t *line, size_t line_bytes, size_t number, uint16_t *words,
+                                         size_t words_words);
+
+/* Writes `words` as a line, without a line feed. first: the digits. Refusal 7 where `line` has fewer than 4 bytes a word. */
+sloefertand_answer sloefertand_write_line(const uint16_t *words, size_t words_words, uint8_t *line, size_t line_bytes);
+
+/* From lines, one frame each, to the text that the plan printer prints: a line a frame with its kind, its number from 1 and its
+ * plan word; or, at the first line that is refused, only FFFF, that line's number and the refusal's. So a bad line is no refusal
+ * of this call. first: the bytes of the text. Refusal 7, of table 4, where `text` is too short for them.
+ * SLOEFERTAND_PLAN_BYTES are always enough. */
+sloefertand_answer sloefertand_print(const uint8_t *lines, size_t lines_bytes, uint8_t *text, size_t text_bytes);
+
+#ifdef __cplusplus
+}
+#endif
+
+#endif
