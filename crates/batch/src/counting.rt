@@ -2,7 +2,7 @@
 use crate::plan::Planned;
 use frames::Framed;
 use frames::read_frame;
-use tables::checks::output;
+use sizes::output;
 use tables::limits::BATCH_LIMIT;
 use tables::refusal::Checked;
 use tables::refusal::Refusal;
