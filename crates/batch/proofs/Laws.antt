@@ -18,10 +18,11 @@ use Rattle.order.proofs.Places.{by-kind}
 use Rattle.order.proofs.Slots.{slot-same}
 use Rattle.order.proofs.Deciding.{conflicting, conflicting-decides}
 use Rattle.order.proofs.Demand.{demand-three, demand-three-sets}
-use Rattle.batch.specs.Batch.{batchOf, batchCheck, SlotIs, WordIs, Written, Plan}
+use Rattle.batches.specs.Batches.{batchOf, batchCheck}
+use Rattle.batch.specs.Batch.{SlotIs, WordIs, Written, Plan}
 use Rattle.batch.specs.declared.plan.Planned.{Planned}
 use Rattle.batch.specs.declared.plan.Planned.the-variants.{Refused, Frames}
-use Rattle.batch.proofs.Frames.{accepted-fits}
+use Rattle.batches.proofs.Frames.{accepted-fits}
 use Rattle.batch.proofs.Slots.{slot-one, slot-exactly}
 
 -- a frame has one word

@@ -1,8 +1,6 @@
 -- Laws of plans.
-pub mod Accepted
+pub mod Checked
 pub mod Tables
-pub mod Frames
-pub mod Left
 pub mod Parts
 pub mod Judging
 pub mod Numbers

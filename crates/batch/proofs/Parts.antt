@@ -14,9 +14,9 @@ use Rattle.tables.specs.declared.refusal.Checked.the-variants.{Fine}
 use Rattle.conflict.specs.Conflict.{delete, insert, Conflict}
 use Rattle.frames.specs.Frames.{part, kind, count, treeAt, endOf}
 use Rattle.verdict.specs.Order.{patternsCheck, deepDeleteCheck, deepInsertCheck}
-use Rattle.batch.specs.Batch.{patternOf, treeOf, updateOf}
+use Rattle.batches.specs.Batches.{patternOf, treeOf, updateOf}
 use Rattle.batch.specs.Walking.{Standing, Updating}
-use Rattle.batch.proofs.Accepted.{frame-kind, steps-room, steps-fine, delete-two, tree-room, tree-fine}
+use Rattle.batches.proofs.Accepted.{frame-kind, steps-room, steps-fine, delete-two, tree-room, tree-fine}
 use Rattle.batch.proofs.Tables.{pattern-other, tree-other}
 
 -- the steps of the frame at a place

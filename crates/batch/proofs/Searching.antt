@@ -11,7 +11,8 @@ use lib.ListN.{length, getD, set}
 use lib.Seq.{getD-set-same, getD-set-other}
 use Rattle.conflict.specs.Conflict.{Update, Conflict}
 use Rattle.order.specs.Model.{read, update, At, earlier, number}
-use Rattle.batch.specs.Batch.{updateOf, batchOf, SlotIs}
+use Rattle.batches.specs.Batches.{updateOf, batchOf}
+use Rattle.batch.specs.Batch.{SlotIs}
 use Rattle.batch.specs.Walking.{Updating}
 use Rattle.batch.proofs.Numbers.{earlier-next, earlier-within, number-before, number-one}
 

@@ -16,10 +16,11 @@ use Rattle.conflict.specs.Conflict.{Update}
 use Rattle.order.specs.Model.{Frame, read, update, At, here, there, number}
 use Rattle.order.proofs.Places.{at-one, at-below}
 use Rattle.frames.specs.Frames.{kind, endOf, frameCheck}
-use Rattle.batch.specs.Batch.{patternOf, updateOf, meaning, framesFrom, batchOf, checkFrom, SlotIs, WordIs, Written}
+use Rattle.batches.specs.Batches.{patternOf, updateOf, meaning, framesFrom, batchOf, checkFrom}
+use Rattle.batch.specs.Batch.{SlotIs, WordIs, Written}
 use Rattle.batch.specs.Walking.{Standing, Updating, Planning}
-use Rattle.batch.proofs.Accepted.{frame-below}
-use Rattle.batch.proofs.Frames.{frames-on, frames-off, check-on, accepted-frames}
+use Rattle.batches.proofs.Accepted.{frame-below}
+use Rattle.batches.proofs.Frames.{frames-on, frames-off, check-on, accepted-frames}
 use Rattle.batch.proofs.Searching.{Noted, no-updates, noted-within, noted-read, noted-update}
 
 -- the words of the first k frames are written, and what lies behind is as it was

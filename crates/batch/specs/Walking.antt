@@ -3,17 +3,9 @@ use Prim.Native.Nat.{ℕ, _≤_}
 use mathlib.Core.Path.{_≡_}
 use mathlib.Core.List.{List}
 use lib.ListN.{length}
-use Rattle.tables.specs.declared.refusal.Checked.{Checked}
 use Rattle.tables.specs.declared.refusal.Checked.the-variants as checked
 use Rattle.frames.specs.Frames.{kind, frameCheck}
-use Rattle.batch.specs.Batch.{batchOf, batchCheck}
-use Rattle.batch.specs.declared.plan.Planned.{Planned}
-use Rattle.batch.specs.declared.plan.Planned.the-variants.{Refused, Frames}
-
--- a check's refusal, or so many frames
-abbrev pub plannedOf : Checked → ℕ → Planned
-plannedOf checked.Fine n = Frames n
-plannedOf (checked.Refused r) n = Refused r
+use Rattle.batches.specs.Batches.{batchOf, batchCheck}
 
 -- at this place stands a frame that meets no refusal
 pub record Standing (b : List ℕ) (at : ℕ) : Type 0 where

@@ -1,4 +1,3 @@
 // The plan of a batch: each update's number, and for each read the slot before which it may not run.
 mod conflicts;
-mod counting;
 pub mod plan;

@@ -1,12 +1,14 @@
 // The plan of a batch: one word a frame.
 use crate::conflicts::conflicts;
 use crate::conflicts::frame_end;
-use crate::counting::checked;
+use batches::Counted;
+use batches::checked;
 use tables::limits::FRAME_LIMIT;
 use tables::refusal::Refusal;
 use tables::words::word;
 ghost use lib.ListN.{length};
-ghost use Rattle.batch.specs.Batch.{batchOf, Written, Plan};
+ghost use Rattle.batches.specs.Batches.{batchOf};
+ghost use Rattle.batch.specs.Batch.{Written, Plan};
 ghost use Rattle.batch.specs.Walking.{Planning};
 
 // The number of frames, or a refusal.
@@ -54,8 +56,8 @@ pub fn plan(b: &[u16], out: &mut [u16]) -> Planned
     ensures { λ r. ⌜ Plan (now (b .entry)) (now (out .entry)) (now (out .exit)) r ⌝ }
 {
     match checked(b, out.len()) {
-        Planned::Refused(r) => Planned::Refused(r),
-        Planned::Frames(n) => {
+        Counted::Refused(r) => Planned::Refused(r),
+        Counted::Frames(n) => {
             write(b, n, out);
             Planned::Frames(n)
         }

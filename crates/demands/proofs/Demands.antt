@@ -22,7 +22,8 @@ use Rattle.verdict.specs.declared.node.Verdict.the-variants as verdict
 use Rattle.order.specs.Order.{Order}
 use Rattle.order.proofs.Deciding.{conflicting}
 use Rattle.order.proofs.Demand.{row-enough}
-use Rattle.batch.specs.Batch.{Plan, batchOf, batchCheck, planCheck}
+use Rattle.batches.specs.Batches.{batchOf, batchCheck, planCheck}
+use Rattle.batch.specs.Batch.{Plan}
 use Rattle.batch.specs.declared.plan.Planned.the-variants as planned
 use Rattle.batch.proofs.Laws.{accepted-slot, accepted-same, accepted-sets}
 use Rattle.tables.proofs.Accepted.{then-first}

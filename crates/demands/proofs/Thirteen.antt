@@ -16,7 +16,7 @@ use Rattle.reading.specs.Reading.{readCheck}
 use Rattle.updating.specs.Updating as updating
 use Rattle.conflict.specs.Conflict.{Update, delete, insert}
 use Rattle.verdict.specs.Order.{roomCheck, patternsCheck, deepDeleteCheck, deepInsertCheck, deleteCheck, insertCheck, deepCheck, verdictCheck}
-use Rattle.batch.specs.Batch.{checkFrom, batchCheck, planCheck}
+use Rattle.batches.specs.Batches.{checkFrom, batchCheck, planCheck}
 use Rattle.lines.specs.Lines.{characterCheck, lineCheck}
 use Rattle.demands.specs.Demands.{Thirteen}
 

@@ -28,7 +28,8 @@ use Rattle.verdict.specs.declared.deep.Deeply.the-variants as deep
 use Rattle.order.specs.Model.{Frame, At, read, update, number}
 use Rattle.order.specs.Order.{Stands, Before, Same, met}
 use Rattle.order.specs.Running.{running, SameSets}
-use Rattle.batch.specs.Batch.{Plan, batchOf, SlotIs}
+use Rattle.batches.specs.Batches.{batchOf}
+use Rattle.batch.specs.Batch.{Plan, SlotIs}
 use Rattle.batch.specs.declared.plan.Planned.the-variants as planned
 use Rattle.lines.specs.Lines.{ReadAs, WrittenAs}
 use Rattle.lines.specs.declared.Parsed.the-variants as parsed

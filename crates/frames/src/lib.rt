@@ -1,6 +1,5 @@
 // One frame of a batch, read where it stands: the place of a refusal is decided here.
-use tables::checks::pattern;
-use tables::checks::tree;
+use patterns::pattern;
 use tables::limits::FRAME_LIMIT;
 use tables::limits::STEP_LIMIT;
 use tables::limits::TREE_LIMIT;
@@ -8,6 +7,7 @@ use tables::refusal::Checked;
 use tables::refusal::Refusal;
 use tables::refusal::refused;
 use tables::words::word;
+use trees::tree;
 ghost use mathlib.Core.Path.{_≡_};
 ghost use Prim.Native.Nat.{_+_, _-_, _<_, _≤_};
 ghost use lib.ListN.{length};

@@ -1,5 +1,5 @@
 // Lines: from a line's bytes to a frame's words, and back.
-use tables::checks::output;
+use sizes::output;
 use tables::limits::DIGIT_LIMIT;
 use tables::refusal::Checked;
 use tables::refusal::Refusal;

@@ -1,12 +1,12 @@
 // The plain reading: slow, and as near to document 01's words as code can be.
-use tables::checks::output;
-use tables::checks::pattern;
-use tables::checks::tree;
+use patterns::pattern;
+use sizes::output;
 use tables::limits::PLAIN_NODES;
 use tables::limits::PLAIN_STEPS;
 use tables::refusal::Checked;
 use tables::words::first_word;
 use tables::words::second_word;
+use trees::tree;
 ghost use mathlib.Core.Path.{_≡_};
 ghost use mathlib.Core.Bool.{cond};
 ghost use mathlib.Core.List.{_++_};

@@ -4,9 +4,9 @@ use crate::planned_into;
 use crate::show::bytes;
 use crate::show::heading;
 use crate::show::table;
+use deleting::delete;
+use inserting::insert;
 use reading::read::read;
-use updating::delete::delete;
-use updating::insert::insert;
 
 // a(b(c),d,c,f) with room for one more node.
 fn rows() -> [u16; 14] {

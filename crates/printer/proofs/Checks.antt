@@ -15,7 +15,7 @@ use Rattle.frames.specs.Frames.{endOf, frameCheck, frameAt}
 use Rattle.frames.specs.declared.Frame.{Frame}
 use Rattle.frames.specs.declared.Framed.{Framed}
 use Rattle.frames.specs.declared.Framed.the-variants as framed
-use Rattle.batch.proofs.Left.{frame-fine, frame-next, frame-why}
+use Rattle.batches.proofs.Left.{frame-fine, frame-next, frame-why}
 
 -- 10 for words, as a frame, words left over
 abbrev pub behindLine : List ℕ → ℕ → ℕ → Checked

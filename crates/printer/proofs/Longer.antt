@@ -16,7 +16,7 @@ use Rattle.tables.specs.declared.refusal.Checked.the-variants.{Fine, Refused}
 use Rattle.tables.proofs.Accepted.{then-first, then-second}
 use Rattle.frames.specs.Frames.{part, kind, count, treeAt, placed, countCheck, kindRight, stepsCheck, nodesCheck, restCheck, frameCheck, endOf}
 use Rattle.frames.proofs.Branches.{count-here, count-some, count-within, count-room}
-use Rattle.batch.proofs.Accepted.{frame-kind, steps-room, tree-room}
+use Rattle.batches.proofs.Accepted.{frame-kind, steps-room, tree-room}
 
 then-both : (a b : Checked) → a ≡ Fine → b ≡ Fine → (a then b) ≡ Fine
 then-both a b e f = rw (e, f)

@@ -14,7 +14,8 @@ use Rattle.tables.specs.declared.refusal.Refusal.{Refusal}
 use Rattle.tables.specs.declared.refusal.Checked.{Checked}
 use Rattle.tables.specs.declared.refusal.Checked.the-variants.{Fine, Refused}
 use Rattle.tables.proofs.Accepted.{held}
-use Rattle.batch.specs.Batch.{planCheck, Plan}
+use Rattle.batches.specs.Batches.{planCheck}
+use Rattle.batch.specs.Batch.{Plan}
 use Rattle.batch.specs.declared.plan.Planned.{Planned}
 use Rattle.batch.specs.declared.plan.Planned.the-variants as planned
 use Rattle.printer.specs.Printer.{threeOf, planText, PlanIs, Lines, stopped, taken, Prints, refusal, plan, Answered, PrintedAs}

@@ -9,7 +9,8 @@ use Rattle.tables.specs.declared.refusal.Checked.the-variants as checked
 use Rattle.conflict.specs.Conflict.{Update}
 use Rattle.order.specs.Model.{Frame, read, update}
 use Rattle.order.proofs.Places.{by-kind}
-use Rattle.batch.specs.Batch.{batchOf, WordIs}
+use Rattle.batches.specs.Batches.{batchOf}
+use Rattle.batch.specs.Batch.{WordIs}
 use Rattle.batch.proofs.Slots.{slot-one}
 use Rattle.printer.specs.Printer.{Outcome, stopped, taken, Lines, none, bad, good, PlanIs, threeOf, planText, Prints, refusal, plan, Answered, PrintedAs}
 use Rattle.printer.specs.declared.Printed.{Printed}

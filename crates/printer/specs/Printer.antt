@@ -13,7 +13,8 @@ use Rattle.tables.specs.declared.refusal.Checked.the-variants as checked
 use Rattle.conflict.specs.Conflict.{Update}
 use Rattle.order.specs.Model.{Frame, At}
 use Rattle.frames.specs.Frames.{part, kind, endOf, frameCheck}
-use Rattle.batch.specs.Batch.{batchOf, WordIs}
+use Rattle.batches.specs.Batches.{batchOf}
+use Rattle.batch.specs.Batch.{WordIs}
 use Rattle.lines.specs.Lines.{lineCheck, wordsOf, lineOf}
 use Rattle.printer.specs.declared.Printed.{Printed}
 use Rattle.printer.specs.declared.Printed.the-variants.{Refused, Bytes}

@@ -5,7 +5,7 @@ use frames::read_frame;
 use lines::Parsed;
 use lines::read_line;
 use lines::write_line;
-use tables::checks::output;
+use sizes::output;
 use tables::limits::BATCH_LIMIT;
 use tables::limits::DIGIT_LIMIT;
 use tables::limits::FRAME_LIMIT;

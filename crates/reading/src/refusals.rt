@@ -1,7 +1,7 @@
 // The refusals of a read, by document 01's order.
-use tables::checks::document;
-use tables::checks::output;
-use tables::checks::pattern;
+use documents::document;
+use patterns::pattern;
+use sizes::output;
 use tables::limits::STEP_LIMIT;
 use tables::refusal::Checked;
 ghost use mathlib.Core.Path.{_≡_};

@@ -1,9 +1,9 @@
 // The checks of patterns, trees and documents. None has a value.
 use crate::answer::Answer;
 use crate::numbers::checked;
-use tables::checks::document;
-use tables::checks::pattern;
-use tables::checks::tree;
+use documents::document;
+use patterns::pattern;
+use trees::tree;
 ghost use mathlib.Core.Path.{_≡_};
 ghost use Rattle.tables.specs.Documents.{doc};
 ghost use Rattle.tables.specs.Checks.{patternCheck, treeCheck, documentCheck};

@@ -2,7 +2,7 @@
 pub mod answer;
 pub mod batches;
 pub mod checking;
-pub mod documents;
 mod numbers;
+pub mod operations;
 pub mod texts;
 pub mod verdicts;

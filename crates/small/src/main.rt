@@ -1,15 +1,15 @@
 // Everything small over the proved library: the four tables that the second program prints too. `stdout` holds what that program printed.
 mod damage;
 mod digest;
-mod documents;
 mod numbering;
 mod pairs;
 mod plans;
 mod show;
+mod small_documents;
 
 fn main() {
     pairs::table();
-    documents::table();
+    small_documents::table();
     damage::table();
     plans::table();
 }

@@ -1,5 +1,4 @@
-// Tables: what a refusal is, the limits, and the checks of patterns, trees and documents.
-pub mod checks;
+// Tables: what a refusal is, the limits, and the words of a table.
 pub mod limits;
 pub mod refusal;
 pub mod words;

@@ -18,7 +18,7 @@ use Rattle.selection.proofs.Inserting.{Room, fits-room}
 use Rattle.updating.specs.declared.delete.Deleted.the-variants.{Removed, Refused as NotDeleted}
 use Rattle.updating.specs.declared.insert.Inserted.the-variants.{Copied, Refused as NotInserted}
 use Rattle.updating.specs.Updating.{deleteCheck, insertCheck, deleteAnswer, insertAnswer}
-use Rattle.updating.specs.Copying.{tablesCheck}
+use Rattle.updating.specs.Asking.{tablesCheck}
 use Rattle.updating.proofs.Asking.{then-assoc}
 
 -- a delete: a document, and more than one step

@@ -23,7 +23,7 @@ use Rattle.selection.proofs.Filling.{row-new, row-long}
 use Rattle.selection.proofs.Inserting.{copies-count}
 use Rattle.reading.specs.Reading.{readCheck, Read}
 use Rattle.updating.specs.Asking.{chosen, Chosen, Asked}
-use Rattle.updating.proofs.Branches.{bit-flag}
+use Rattle.updating.proofs.Bits.{bit-flag}
 use Rattle.updating.proofs.Counting.{rising-ext}
 
 then-fine : (a : Checked) → (a then Fine) ≡ a

@@ -1,13 +1,10 @@
 -- Counting in rising number, one number a turn.
 use Prim.Native.Nat.{ℕ, zero, suc, _+_, _<_, _≤_}
-use mathlib.Core.Path.{_≡_, refl, _∙_}
+use mathlib.Core.Path.{_≡_, refl}
 use mathlib.Core.Bool.{Bool, true, false, cond}
-use mathlib.Core.List.{List}
 use native.Mathlib.Numerals.{add-one}
 use native.Mathlib.Omega.{arith}
-use lib.ListN.{getD}
 use Rattle.selection.specs.Lists.{rising, count}
-use Rattle.updating.specs.Asking.{chosen, ticked}
 
 module _ (f : ℕ → Bool) where
   pub count-start : 0 ≡ count f 0
@@ -37,11 +34,6 @@ module _ (f : ℕ → Bool) where
     count-end used h l =
         let same : used ≡ v = omega arith in
         rw same e
-
--- a row's byte of 1 counts
-pub chosen-on : (row : List ℕ) (v : ℕ) {n b one : ℕ} → n ≡ count (chosen row) v → b ≡ getD row v 0 → one ≡ ticked b → n + one ≡ count (chosen row) (v + 1)
-unfolding chosen ticked
-chosen-on row v e q w = count-on (chosen row) v e (w ∙ rw q)
 
 -- tests that agree below n list the same numbers
 pub rising-ext : (f g : ℕ → Bool) (n : ℕ) → ((i : ℕ) → i < n → f i ≡ g i) → rising f n ≡ rising g n

@@ -1,7 +1,7 @@
 // Deleting from a document: its refusals in order, each leaving the marks as they were, and marks after deletes.
 use crate::show::deleted;
 use crate::show::row;
-use updating::delete::delete;
+use deleting::delete;
 
 fn refusals() {
     let t = [0u16, 1, 0, 2, 1, 3];

@@ -5,7 +5,7 @@ use crate::show::table;
 use crate::tables_of::marks_room;
 use crate::tables_of::pairs;
 use crate::tables_of::rows_room;
-use updating::insert::insert;
+use inserting::insert;
 
 // a(b(c(c)),c) with room for so many nodes as there are marks.
 fn into(name: &[u8], p: &[u16], x: &[u16], rows: &mut [u16], marks: &mut [u8]) {

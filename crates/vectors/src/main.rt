@@ -1,19 +1,19 @@
 // Run vectors: every refusal at its edge, and what each call leaves in the buffers lent to it. What they should print is in `stdout`,
 // worked out from document 01.
 mod deletes;
-mod documents;
+mod document_checks;
 mod inserts;
-mod patterns;
+mod pattern_checks;
 mod plains;
 mod reads;
 mod show;
 mod tables_of;
-mod trees;
+mod tree_checks;
 
 fn main() {
-    patterns::run();
-    trees::run();
-    documents::run();
+    pattern_checks::run();
+    tree_checks::run();
+    document_checks::run();
     plains::run();
     reads::run();
     deletes::run();

@@ -1,10 +1,10 @@
 // The checks of a verdict, by document 01's order.
-use tables::checks::pattern;
-use tables::checks::tree;
+use patterns::pattern;
 use tables::limits::STEP_LIMIT;
 use tables::limits::TREE_LIMIT;
 use tables::refusal::Checked;
 use tables::refusal::refused;
+use trees::tree;
 ghost use mathlib.Core.Path.{_≡_};
 ghost use lib.Dec.{ltb};
 ghost use Rattle.tables.specs.Words.{steps};

@@ -2,10 +2,10 @@
 use crate::show::answered;
 use crate::show::text;
 use check::same;
+use deleting::delete;
+use inserting::insert;
 use reading::read::read;
-use updating::delete::delete;
 use updating::insert::Inserted;
-use updating::insert::insert;
 use verdict::node::Verdict;
 use verdict::node::delete_verdict;
 use verdict::node::insert_verdict;

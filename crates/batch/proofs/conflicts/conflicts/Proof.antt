@@ -1,7 +1,7 @@
 -- The read's steps are a part of the batch.
 use native.Mathlib.Omega.{arith}
 use Rattle.batch.proofs.Parts.{steps-are, steps-accepted, steps-inside}
-use Rattle.batch.proofs.Accepted.{steps-room}
+use Rattle.batches.proofs.Accepted.{steps-room}
 use Rattle.batch.proofs.conflicts.conflicts.Statement.{statement}
 use Rattle.batch.proofs.conflicts.conflicts.Tie as tie
 

@@ -5,8 +5,8 @@ use lib.ListN.{length}
 use native.Mathlib.Omega.{arith}
 use borrow.Author.Needs.{needs}
 use Rattle.frames.specs.Frames.{count}
-use Rattle.batch.proofs.Accepted.{tree-room}
-use Rattle.batch.proofs.Frames.{end-other, end-insert}
+use Rattle.batches.proofs.Accepted.{tree-room}
+use Rattle.batches.proofs.Frames.{end-other, end-insert}
 use Rattle.batch.proofs.conflicts.frame_end.Statement.{statement}
 use Rattle.batch.proofs.conflicts.frame_end.Tie as tie
 

@@ -1,7 +1,7 @@
 -- The steps lie within the batch, so their end fits.
 use native.Mathlib.Omega.{arith}
 use borrow.Author.Needs.{needs}
-use Rattle.batch.proofs.Accepted.{steps-room}
+use Rattle.batches.proofs.Accepted.{steps-room}
 use Rattle.batch.proofs.conflicts.steps_end.Statement.{statement}
 use Rattle.batch.proofs.conflicts.steps_end.Tie as tie
 

@@ -1,7 +1,7 @@
 -- The plan is written only where every check is fine.
 use mathlib.Core.Path.{refl}
 use borrow.Author.Needs.{needs}
-use Rattle.batch.proofs.Left.{plan-refused, plan-fine, plan-count, plan-asks}
+use Rattle.batch.proofs.Checked.{plan-refused, plan-fine, plan-count, plan-asks}
 use Rattle.batch.proofs.plan.plan.Statement.{statement}
 use Rattle.batch.proofs.plan.plan.Tie as tie
 

@@ -4,7 +4,7 @@ use Prim.Native.Nat.{_-_}
 use mathlib.Core.Path.{refl}
 use mathlib.Core.Logic.{⊎-elim}
 use native.Mathlib.Omega.{arith}
-use Rattle.batch.specs.Batch.{patternOf}
+use Rattle.batches.specs.Batches.{patternOf}
 use Rattle.batch.proofs.Searching.{Searched, Slotted, search-start, search-none, search-hit, search-on}
 use Rattle.batch.proofs.Turns.{Walked, walk-start, stands, noted-few, room, read-turn, update-turn, walk-end}
 use Rattle.batch.proofs.plan.write.Statement.{statement}

@@ -1,0 +1,40 @@
+-- What the plan asks, and what it promises, from the check that the code matches on.
+use Prim.Native.Nat.{ℕ}
+use mathlib.Core.Path.{_≡_}
+use mathlib.Core.List.{List}
+use native.Mathlib.Omega.{arith}
+use lib.Dec.{leb}
+use lib.ListN.{length}
+use borrow.Author.Tests.{leb-true}
+use Rattle.tables.specs.Checks.{_then_, outputCheck}
+use Rattle.tables.specs.declared.refusal.Refusal.{Refusal}
+use Rattle.tables.specs.declared.refusal.Checked.the-variants as checked
+use Rattle.tables.proofs.Accepted.{held, then-first, then-second}
+use Rattle.batches.specs.Batches.{batchOf, batchCheck, planCheck, countedOf}
+use Rattle.batches.specs.declared.Counted.{Counted}
+use Rattle.batches.specs.declared.Counted.the-variants.{Refused, Frames}
+use Rattle.batches.proofs.Left.{got-why, got-fine, got-count}
+use Rattle.batch.specs.Walking.{Planning}
+
+module _ (b : List ℕ) (words : ℕ) {got : Counted} (e : got ≡ countedOf (planCheck b words) (length (batchOf b))) where
+  pub plan-refused : {r : Refusal} → got ≡ Refused r → planCheck b words ≡ checked.Refused r
+  plan-refused told = got-why (planCheck b words) (length (batchOf b)) e told
+
+  module _ {n : ℕ} (told : got ≡ Frames n) where
+    pub plan-fine : planCheck b words ≡ checked.Fine
+    plan-fine = got-fine (planCheck b words) (length (batchOf b)) e told
+
+    pub plan-count : n ≡ length (batchOf b)
+    plan-count = got-count (planCheck b words) (length (batchOf b)) e told
+
+    pub plan-asks : Planning b n words
+    unfolding planCheck outputCheck
+    plan-asks = record {
+      accepted = then-first (batchCheck b) (outputCheck (length (batchOf b)) words) plan-fine;
+      frames = plan-count;
+      room = omega (
+        arith,
+        plan-count,
+        leb-true (length (batchOf b)) words (held (leb (length (batchOf b)) words) _ (then-second (batchCheck b) (outputCheck (length (batchOf b)) words) plan-fine)),
+      );
+    }

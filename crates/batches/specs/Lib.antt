@@ -1,0 +1,2 @@
+-- What a reader must believe of batches.
+pub mod Batches

@@ -1,0 +1,4 @@
+-- Laws of the code of delete.
+pub mod Branches
+pub mod Hits
+pub mod Promises

@@ -1,0 +1,2 @@
+-- What the inside of delete holds.
+pub mod Striking

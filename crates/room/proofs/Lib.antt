@@ -1,0 +1,3 @@
+-- Laws of the room of an insert.
+pub mod Branches
+pub mod Counting

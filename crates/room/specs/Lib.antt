@@ -1,0 +1,2 @@
+-- What the inside of counting holds.
+pub mod Ticking
