@@ -9,10 +9,10 @@ use lib.ListN.{length, take}
 use Rattle.tables.specs.Limits.{stepLimit}
 use Rattle.tables.specs.declared.refusal.Checked.the-variants.{Fine}
 use Rattle.conflict.specs.Conflict.{Update, delete, insert, Conflict}
-use Rattle.verdict.specs.Order.{roomCheck, deepDeleteCheck, deepInsertCheck, deleteCheck, insertCheck, verdictCheck}
-use Rattle.verdict.specs.Writing.{Bounded}
+use Rattle.admission.specs.Order.{roomCheck, deepDeleteCheck, deepInsertCheck, deleteCheck, insertCheck, verdictCheck}
+use Rattle.admission.specs.Admitted.{Bounded}
 use Rattle.verdict.specs.Promise.{NodeVerdict}
-use Rattle.verdict.proofs.Accepting.{room-long, delete-bounded, insert-bounded}
+use Rattle.admission.proofs.Accepting.{room-long, delete-bounded, insert-bounded}
 use Rattle.verdict.specs.declared.node.Verdict.{Verdict}
 use Rattle.verdict.specs.declared.node.Verdict.the-variants as verdict
 

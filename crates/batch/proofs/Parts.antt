@@ -13,7 +13,7 @@ use Rattle.tables.specs.Checks.{patternCheck}
 use Rattle.tables.specs.declared.refusal.Checked.the-variants.{Fine}
 use Rattle.conflict.specs.Conflict.{delete, insert, Conflict}
 use Rattle.frames.specs.Frames.{part, kind, count, treeAt, endOf}
-use Rattle.verdict.specs.Order.{patternsCheck, deepDeleteCheck, deepInsertCheck}
+use Rattle.admission.specs.Order.{patternsCheck, deepDeleteCheck, deepInsertCheck}
 use Rattle.batches.specs.Batches.{patternOf, treeOf, updateOf}
 use Rattle.batch.specs.Walking.{Standing, Updating}
 use Rattle.batches.proofs.Accepted.{frame-kind, steps-room, steps-fine, delete-two, tree-room, tree-fine}

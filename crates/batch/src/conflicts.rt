@@ -14,7 +14,7 @@ ghost use Rattle.tables.specs.Checks.{patternCheck};
 ghost use Rattle.tables.specs.declared.refusal.Checked.the-variants.{Fine};
 ghost use Rattle.conflict.specs.Conflict.{delete, insert, Conflict};
 ghost use Rattle.frames.specs.Frames.{count, treeAt, endOf};
-ghost use Rattle.verdict.specs.Order.{deepDeleteCheck, deepInsertCheck};
+ghost use Rattle.admission.specs.Order.{deepDeleteCheck, deepInsertCheck};
 ghost use Rattle.batches.specs.Batches.{patternOf, updateOf};
 ghost use Rattle.batch.specs.Walking.{Standing, Updating};
 

@@ -14,7 +14,8 @@ use Rattle.selection.proofs.Presence.{is-present}
 use Rattle.selection.proofs.Rows.{same-bit}
 use Rattle.selection.proofs.Selecting.{selects-by-labels}
 use Rattle.plain.specs.Plain.{plainCheck, PlainRead}
-use Rattle.reading.specs.Reading.{readCheck, Read}
+use Rattle.readable.specs.Readable.{readCheck}
+use Rattle.reading.specs.Reading.{Read}
 use Rattle.reading.proofs.Laws.{read-selects}
 
 pub readings-agree : (p t marks : List ℕ) → Words t → ((v : ℕ) → v < nodes t → getD marks v 0 ≡ 0) → (table : ℕ) (before row before′ plain : List ℕ) →

@@ -15,7 +15,7 @@ use Rattle.updating.specs.declared.insert.Inserted.the-variants as inserted
 use Rattle.updating.proofs.Deletes.{delete-same}
 use Rattle.updating.proofs.Inserts.{insert-same}
 use Rattle.conflict.specs.Conflict.{Update, Conflict, after, delete, insert}
-use Rattle.verdict.specs.Order.{verdictCheck}
+use Rattle.admission.specs.Order.{verdictCheck}
 use Rattle.verdict.specs.Promise.{NodeVerdict, witnessNodes}
 use Rattle.verdict.specs.declared.node.Verdict.{Verdict}
 use Rattle.verdict.specs.declared.node.Verdict.the-variants as verdict

@@ -12,10 +12,10 @@ use Rattle.tables.specs.declared.refusal.Checked.the-variants.{Fine, Refused}
 use Rattle.tables.specs.Checks.{refuse, _then_, test, each, sizeCheck, axisCheck, patternCheck, nodeCheck, treeCheck, usedCheck, markCheck, documentCheck, outputCheck}
 use Rattle.frames.specs.Frames.{placed, countCheck, stepsCheck, nodesCheck, restCheck, frameCheck, endOf}
 use Rattle.plain.specs.Plain.{plainCheck}
-use Rattle.reading.specs.Reading.{readCheck}
+use Rattle.readable.specs.Readable.{readCheck}
 use Rattle.updating.specs.Updating as updating
 use Rattle.conflict.specs.Conflict.{Update, delete, insert}
-use Rattle.verdict.specs.Order.{roomCheck, patternsCheck, deepDeleteCheck, deepInsertCheck, deleteCheck, insertCheck, deepCheck, verdictCheck}
+use Rattle.admission.specs.Order.{roomCheck, patternsCheck, deepDeleteCheck, deepInsertCheck, deleteCheck, insertCheck, deepCheck, verdictCheck}
 use Rattle.batches.specs.Batches.{checkFrom, batchCheck, planCheck}
 use Rattle.lines.specs.Lines.{characterCheck, lineCheck}
 use Rattle.demands.specs.Demands.{Thirteen}

@@ -20,7 +20,7 @@ use Rattle.updating.specs.declared.insert.Inserted.the-variants as inserted
 use Rattle.selection.specs.Embeddings.{Selects}
 use Rattle.selection.specs.Rows.{Row}
 use Rattle.conflict.specs.Conflict.{Update, delete, insert, pattern, after as after-update, Witness, Conflict}
-use Rattle.verdict.specs.Order.{verdictCheck}
+use Rattle.admission.specs.Order.{verdictCheck}
 use Rattle.verdict.specs.Promise.{NodeVerdict, DeepVerdict, witnessNodes}
 use Rattle.verdict.specs.declared.node.Verdict.{Verdict}
 use Rattle.verdict.specs.declared.node.Verdict.the-variants as verdict

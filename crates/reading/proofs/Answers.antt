@@ -14,7 +14,8 @@ use Rattle.selection.specs.Lists.{tab}
 use Rattle.selection.specs.Ways.{up, run, last, selected}
 use Rattle.selection.specs.Operations.{readRow}
 use Rattle.selection.proofs.Lists.{tab-ext}
-use Rattle.reading.specs.States.{low, stands, held, shown}
+use Rattle.stepping.specs.Bytes.{low}
+use Rattle.reading.specs.States.{stands, held, shown}
 use Rattle.selection.proofs.Filling.{row-more, row-new, row-old, row-rest}
 use Rattle.reading.proofs.Standing.{low-held}
 

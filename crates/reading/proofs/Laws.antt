@@ -12,7 +12,8 @@ use Rattle.selection.specs.Embeddings.{Selects}
 use Rattle.selection.specs.Rows.{Row}
 use Rattle.selection.specs.Operations.{readRow}
 use Rattle.selection.proofs.Rows.{read-row}
-use Rattle.reading.specs.Reading.{readCheck, Read, written}
+use Rattle.readable.specs.Readable.{readCheck}
+use Rattle.reading.specs.Reading.{Read, written}
 use Rattle.reading.proofs.Meeting.{fine-document, fine-pattern, fine-room}
 
 -- two reads of the same tables give one row and one answer

@@ -15,7 +15,8 @@ use Rattle.tables.proofs.Accepted.{held, then-first, then-second}
 use Rattle.tables.proofs.Soundness.{accepted-pattern, node-falls, document-nodes}
 use Rattle.selection.specs.Operations.{readRow}
 use Rattle.reading.specs.States.{Readable}
-use Rattle.reading.specs.Reading.{readCheck, Read}
+use Rattle.readable.specs.Readable.{readCheck}
+use Rattle.reading.specs.Reading.{Read}
 
 module _ (p : List ℕ) (table : ℕ) (d : Doc) (bytes : ℕ) (e : readCheck p table d bytes ≡ Fine) where
   pub fine-document : documentCheck d ≡ Fine

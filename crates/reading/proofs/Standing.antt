@@ -10,8 +10,9 @@ use Rattle.tables.specs.Words.{parent, tag}
 use Rattle.selection.specs.Lists.{tab}
 use Rattle.selection.specs.Ways.{up, ups, empty, runs, run, takes, stays}
 use Rattle.selection.proofs.Up.{Falls, up-top, up-node}
-use Rattle.reading.specs.States.{packed, low, high, stands, held, under, reached, After}
-use Rattle.reading.proofs.Branches.{reached-under, reached-late, reached-first}
+use Rattle.stepping.specs.Bytes.{packed, low, high, under, reached}
+use Rattle.reading.specs.States.{stands, held, After}
+use Rattle.stepping.proofs.Branches.{reached-under, reached-late, reached-first}
 use Rattle.selection.proofs.Filling.{row-more, row-new, row-old}
 
 pub low-packed : (a b : Bool) → low (packed a b) ≡ a

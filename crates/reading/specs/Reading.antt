@@ -1,19 +1,13 @@
--- Reading a document: the order of its checks, and the row that it writes.
+-- Reading a document: what it answers, and the row that it writes.
 use Prim.Native.Nat.{ℕ}
 use mathlib.Core.Path.{_≡_}
 use mathlib.Core.List.{List}
 use lib.ListN.{length}
-use Rattle.tables.specs.Limits.{stepLimit}
 use Rattle.tables.specs.Documents.{Doc}
-use Rattle.tables.specs.Checks.{_then_, documentCheck, patternCheck, outputCheck}
 use Rattle.tables.specs.declared.refusal.Checked.{Checked}
 use Rattle.tables.specs.declared.refusal.Checked.the-variants.{Fine, Refused}
 use Rattle.selection.specs.Operations.{readRow}
-
--- the document, then the pattern, then 7 when the answer row is shorter than the used count
-unfoldable pub readCheck : List ℕ → ℕ → Doc → ℕ → Checked
-readCheck p table d bytes =
-    documentCheck d then patternCheck p stepLimit table then outputCheck (d .used) bytes
+use Rattle.readable.specs.Readable.{readCheck}
 
 -- a refusal changes no lent buffer
 abbrev pub written : Checked → List ℕ → List ℕ → List ℕ

@@ -1,22 +1,13 @@
 -- What the row holds while steps are taken one after another: at each node whether the last step taken stands there, and the one before it.
-use Prim.Native.Nat.{ℕ, zero, suc, _+_, _%_, _<_, _≤_}
+use Prim.Native.Nat.{ℕ, zero, suc, _<_, _≤_}
 use mathlib.Core.Path.{_≡_}
-use mathlib.Core.Bool.{Bool, false, _&&_, _||_, cond}
+use mathlib.Core.Bool.{Bool, false, _&&_, cond}
 use mathlib.Core.List.{List}
-use lib.Dec.{eqb, leb}
+use lib.Dec.{eqb}
 use lib.ListN.{length, getD}
 use Rattle.tables.specs.Words.{steps, parent}
-use Rattle.selection.specs.Ways.{up, run, takes, stays}
-
--- two answers in one byte
-abbrev pub packed : Bool → Bool → ℕ
-packed now before = cond now 1 0 + cond before 2 0
-
-abbrev pub low : ℕ → Bool
-low x = eqb (x % 2) 1
-
-abbrev pub high : ℕ → Bool
-high x = leb 2 x
+use Rattle.selection.specs.Ways.{up, run}
+use Rattle.stepping.specs.Bytes.{packed, low}
 
 -- after n steps: the last of them stands at v
 unfoldable pub stands : List ℕ → List ℕ → ℕ → ℕ → Bool
@@ -27,14 +18,6 @@ stands p t (suc i) v = run p false i (up t v)
 unfoldable pub held : List ℕ → List ℕ → ℕ → ℕ → ℕ
 held p t zero v = 0
 held p t (suc i) v = packed (stands p t (suc i) v) (stands p t i v)
-
--- whether step i stands at a node of this label below another: it lands there or stays from above
-unfoldable pub under : List ℕ → ℕ → ℕ → ℕ → Bool
-under p i l above = (takes p i l && high above) || (stays p false i && low above)
-
--- whether step i stands at v: on the root only the first step lands
-unfoldable pub reached : List ℕ → ℕ → ℕ → ℕ → ℕ → Bool
-reached p i v l above = cond (eqb v 0) (eqb i 0 && takes p i l) (under p i l above)
 
 -- parents fall, and the row has a byte for each used node
 pub record Ready (t : List ℕ) (used : ℕ) (row : List ℕ) : Type 0 where

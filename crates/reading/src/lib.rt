@@ -1,6 +1,4 @@
 // Reading a document: which of its used nodes a pattern selects.
 pub mod read;
-mod refusals;
 mod row;
 mod states;
-mod steps;

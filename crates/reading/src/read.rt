@@ -1,6 +1,6 @@
 // Reading a document, for every caller.
-use crate::refusals::checked;
 use crate::row::filled;
+use readable::checked;
 use tables::refusal::Checked;
 ghost use Rattle.tables.specs.Documents.{doc};
 ghost use Rattle.reading.specs.Reading.{Read};

@@ -10,7 +10,8 @@ ghost use lib.ListN.{length, drop};
 ghost use Rattle.tables.specs.Documents.{doc};
 ghost use Rattle.selection.specs.Lists.{tab};
 ghost use Rattle.selection.specs.Operations.{readRow};
-ghost use Rattle.reading.specs.States.{low, shown, Readable};
+ghost use Rattle.stepping.specs.Bytes.{low};
+ghost use Rattle.reading.specs.States.{shown, Readable};
 
 // A node is selected where it is present and the last step stands there.
 fn selected(mark: usize, own: usize) -> u8

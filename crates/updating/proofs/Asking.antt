@@ -21,7 +21,8 @@ use Rattle.selection.specs.Operations.{readRow, points, copies}
 use Rattle.selection.proofs.Lists.{count-ext}
 use Rattle.selection.proofs.Filling.{row-new, row-long}
 use Rattle.selection.proofs.Inserting.{copies-count}
-use Rattle.reading.specs.Reading.{readCheck, Read}
+use Rattle.readable.specs.Readable.{readCheck}
+use Rattle.reading.specs.Reading.{Read}
 use Rattle.updating.specs.Asking.{chosen, Chosen, Asked}
 use Rattle.updating.proofs.Bits.{bit-flag}
 use Rattle.updating.proofs.Counting.{rising-ext}

@@ -20,7 +20,8 @@ use Rattle.selection.proofs.Runs.{either, both, stays-last}
 use Rattle.conflict.specs.Crossing.{over, goesOn, somewhere, enters}
 use Rattle.conflict.proofs.Crossing.{Over, cut, lands, passes, of-over, to-over}
 use Rattle.verdict.specs.Cells.{place}
-use Rattle.verdict.specs.Climbing.{has, leaves, Fitting, Climb, Blank, Started, Climbed}
+use Rattle.admission.specs.Admitted.{Fitting}
+use Rattle.verdict.specs.Climbing.{has, leaves, Climb, Blank, Started, Climbed}
 use Rattle.verdict.specs.Climbing as climbing
 
 pub holds-is : {y : ℕ} (rows : List ℕ) (v k : ℕ) → y ≡ getD rows (place v k) 0 → eqb y 1 ≡ has rows v k

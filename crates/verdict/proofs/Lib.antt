@@ -5,6 +5,5 @@ pub mod Choosing
 pub mod Tracing
 pub mod Climbing
 pub mod Writing
-pub mod Accepting
 pub mod Judging
 pub mod Promise

@@ -30,10 +30,10 @@ use Rattle.verdict.specs.declared.node.Verdict.{Verdict}
 use Rattle.verdict.specs.declared.node.Verdict.the-variants.{Clear, Conflict as Found, Refused as NotJudged}
 use Rattle.verdict.specs.declared.deep.Deeply.{Deeply}
 use Rattle.verdict.specs.declared.deep.Deeply.the-variants.{No, Yes, Refused as NotDeep}
-use Rattle.verdict.specs.Order.{verdictCheck, deepCheck, deepDeleteCheck, deepInsertCheck, deleteCheck, insertCheck}
+use Rattle.admission.specs.Order.{verdictCheck, deepCheck, deepDeleteCheck, deepInsertCheck, deleteCheck, insertCheck}
 use Rattle.verdict.specs.Promise.{NodeVerdict, DeepVerdict, witnessNodes}
 use Rattle.verdict.specs.Verdict.{touches, foundOf, deleteDeep, insertDeep}
-use Rattle.verdict.proofs.Accepting.{patterns-read, patterns-update, delete-patterns, delete-bounded, delete-two, delete-deep, delete-room, insert-patterns, insert-bounded, insert-tree, insert-deep, insert-room}
+use Rattle.admission.proofs.Accepting.{patterns-read, patterns-update, delete-patterns, delete-bounded, delete-two, delete-deep, delete-room, insert-patterns, insert-bounded, insert-tree, insert-deep, insert-room}
 use Rattle.verdict.proofs.Judging.{verdictOf, outputOf, Judged, deeplyOf}
 
 -- a check that is fine is no refusal

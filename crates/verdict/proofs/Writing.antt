@@ -18,9 +18,10 @@ use Rattle.conflict.proofs.Shortest.{length-meetingOf, fewestOf-most}
 use Rattle.verdict.specs.Cells.{place, Held}
 use Rattle.verdict.specs.Tracing.{left, Traceable}
 use Rattle.verdict.specs.Climbing.{Blank}
-use Rattle.verdict.specs.Order.{needed}
+use Rattle.admission.specs.Order.{needed}
 use Rattle.verdict.specs.Verdict.{touches}
-use Rattle.verdict.specs.Writing.{Bounded, Written, candidateWay, Enterable}
+use Rattle.admission.specs.Admitted.{Bounded}
+use Rattle.verdict.specs.Writing.{Written, candidateWay, Enterable}
 
 -- rows of zeros are blank
 pub blank-of : (n : ℕ) → n ≡ treeLimit * stepLimit → Blank (replicate {A = ℕ} n 0)

@@ -18,14 +18,6 @@ has rows v k = eqb (getD rows (place v k) 0) 1
 unfoldable pub leaves : List ℕ → List ℕ → List ℕ → ℕ → ℕ → Bool
 leaves r x rows v k = (has rows v (suc k) && takes r (suc k) (tag x v)) || (has rows v k && stays r false k)
 
--- a pattern of no more steps than the limit, and a tree of no more nodes than its limit in which parents fall
-pub record Fitting (r x : List ℕ) : Type 0 where
-  pub some : 0 < steps r
-  pub reads : steps r ≤ stepLimit
-  pub root : 0 < nodes x
-  pub most : nodes x ≤ treeLimit
-  pub falls : (v : ℕ) → 0 < v → v < nodes x → parent x v < v
-
 -- a run from r's last state at some node comes to state k below the label of v
 pub data Climb (r x : List ℕ) : ℕ → ℕ → Type 0 where
   starts : {v : ℕ} → v < nodes x → Climb r x v (last r)

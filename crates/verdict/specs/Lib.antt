@@ -1,5 +1,4 @@
--- What a reader must believe of the verdicts is Order and Promise; the others are how they are found, and need not be believed.
-pub mod Order
+-- What a reader must believe of the verdicts is Promise; the others are how they are found, and need not be believed.
 pub mod Promise
 pub mod Verdict
 pub mod Cells

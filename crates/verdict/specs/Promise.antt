@@ -11,7 +11,7 @@ use Rattle.verdict.specs.declared.node.Verdict.{Verdict}
 use Rattle.verdict.specs.declared.node.Verdict.the-variants.{Clear, Conflict as Found, Refused as NotJudged}
 use Rattle.verdict.specs.declared.deep.Deeply.{Deeply}
 use Rattle.verdict.specs.declared.deep.Deeply.the-variants.{No, Yes, Refused as NotDeep}
-use Rattle.verdict.specs.Order.{verdictCheck, deepCheck}
+use Rattle.admission.specs.Order.{verdictCheck, deepCheck}
 
 -- refused: the order gives this refusal, and the output is as it was
 pub record IsRefused (r : List ℕ) (u : Update) (before after : List ℕ) (why : Refusal) : Type 0 where

@@ -1,23 +1,16 @@
 -- What the functions that count and write a way ask, and what they promise.
-use Prim.Native.Nat.{ℕ, _*_, _<_, _≤_}
+use Prim.Native.Nat.{ℕ, _*_}
 use mathlib.Core.Path.{_≡_}
 use mathlib.Core.Bool.{false, cond}
 use mathlib.Core.List.{List, [], _++_}
 use lib.ListN.{length, drop}
-use Rattle.tables.specs.Limits.{stepLimit}
 use Rattle.tables.specs.Words.{steps}
 use Rattle.selection.specs.Ways.{last}
 use Rattle.conflict.specs.Meeting.{meetingOf}
 use Rattle.conflict.specs.Crossing.{chain, enters}
 use Rattle.verdict.specs.Cells.{Held}
-use Rattle.verdict.specs.Climbing.{Fitting, Climbed}
-
--- patterns of at least one step and no more than the limit
-pub record Bounded (r p : List ℕ) : Type 0 where
-  pub reads-some : 0 < steps r
-  pub reads : steps r ≤ stepLimit
-  pub updates-some : 0 < steps p
-  pub updates : steps p ≤ stepLimit
+use Rattle.admission.specs.Admitted.{Bounded, Fitting}
+use Rattle.verdict.specs.Climbing.{Climbed}
 
 -- a way is counted, and written as a chain at the front; all behind it stays
 pub record Written (way before after : List ℕ) (n : ℕ) : Type 0 where

@@ -1,9 +1,9 @@
 // The deep verdict, yes or no: a node conflict, or an update point below a node that the read selects.
-use crate::checks::deep_delete_check;
-use crate::checks::deep_insert_check;
 use crate::ways::delete_way;
 use crate::ways::insert_way;
 use crate::ways::touching;
+use admission::deep_delete_check;
+use admission::deep_insert_check;
 use tables::limits::STEP_LIMIT;
 use tables::refusal::Checked;
 use tables::refusal::Refusal;
@@ -14,10 +14,9 @@ ghost use lib.ListN.{length};
 ghost use Rattle.tables.specs.Limits.{stepLimit};
 ghost use Rattle.conflict.specs.Conflict.{delete, insert};
 ghost use Rattle.verdict.specs.declared.deep.Deeply.the-variants.{No, Yes};
-ghost use Rattle.verdict.specs.Climbing.{Fitting};
+ghost use Rattle.admission.specs.Admitted.{Bounded, Fitting};
 ghost use Rattle.verdict.specs.Promise.{DeepVerdict};
 ghost use Rattle.verdict.specs.Verdict.{deleteDeep, insertDeep};
-ghost use Rattle.verdict.specs.Writing.{Bounded};
 
 // Refused, no or yes.
 pub enum Deeply {

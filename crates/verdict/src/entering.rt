@@ -15,7 +15,8 @@ ghost use Rattle.tables.specs.Words.{nodes, tag};
 ghost use Rattle.selection.specs.Ways.{takes, stays, last};
 ghost use Rattle.conflict.specs.Crossing.{enters};
 ghost use Rattle.verdict.specs.Cells.{place};
-ghost use Rattle.verdict.specs.Climbing.{has, leaves, Fitting, Blank, Started, Climbed};
+ghost use Rattle.admission.specs.Admitted.{Fitting};
+ghost use Rattle.verdict.specs.Climbing.{has, leaves, Blank, Started, Climbed};
 
 // Whether state k is in the row of node v.
 fn holds(rows: &[u8], v: usize, k: usize) -> bool

@@ -1,5 +1,4 @@
 // Verdicts: whether a read and an update conflict, and a smallest witness.
-mod checks;
 pub mod deep;
 mod entering;
 mod fill;

@@ -1,8 +1,8 @@
 // The node verdict: whether a read and an update conflict, with a smallest witness.
-use crate::checks::delete_check;
-use crate::checks::insert_check;
 use crate::ways::delete_way;
 use crate::ways::insert_way;
+use admission::delete_check;
+use admission::insert_check;
 use tables::refusal::Checked;
 use tables::refusal::Refusal;
 ghost use mathlib.Core.Path.{_≡_};

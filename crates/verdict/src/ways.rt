@@ -15,10 +15,11 @@ ghost use lib.ListN.{length};
 ghost use Rattle.tables.specs.Limits.{stepLimit};
 ghost use Rattle.selection.specs.Ways.{last};
 ghost use Rattle.conflict.specs.Crossing.{deleteWay, insertWay};
-ghost use Rattle.verdict.specs.Climbing.{Fitting, Blank};
-ghost use Rattle.verdict.specs.Order.{needed};
+ghost use Rattle.admission.specs.Admitted.{Bounded, Fitting};
+ghost use Rattle.verdict.specs.Climbing.{Blank};
+ghost use Rattle.admission.specs.Order.{needed};
 ghost use Rattle.verdict.specs.Verdict.{touches};
-ghost use Rattle.verdict.specs.Writing.{Bounded, Written, candidateWay, Enterable};
+ghost use Rattle.verdict.specs.Writing.{Written, candidateWay, Enterable};
 
 // Pairs of states, and pairs of a node of an inserted tree and a state.
 const CELLS: usize = STEP_LIMIT * STEP_LIMIT;

@@ -1,6 +1,6 @@
 -- The check, and where it is fine the answer.
 use mathlib.Core.Path.{sym, _∙_}
-use Rattle.verdict.proofs.Accepting.{delete-bounded}
+use Rattle.admission.proofs.Accepting.{delete-bounded}
 use Rattle.verdict.proofs.Judging.{deeply-on, deeply-off}
 use Rattle.verdict.proofs.Promise.{deep-delete-promise}
 use native.Mathlib.Omega.{arith}

@@ -1,6 +1,6 @@
 -- The check, and where it is fine the answer.
 use mathlib.Core.Path.{sym, _∙_}
-use Rattle.verdict.proofs.Accepting.{insert-bounded, insert-fitting}
+use Rattle.admission.proofs.Accepting.{insert-bounded, insert-fitting}
 use Rattle.verdict.proofs.Judging.{deeply-on, deeply-off}
 use Rattle.verdict.proofs.Promise.{deep-insert-promise}
 use native.Mathlib.Omega.{arith}

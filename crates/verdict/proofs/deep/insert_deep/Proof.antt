@@ -1,5 +1,5 @@
 -- A node conflict, or an update point below.
-use Rattle.verdict.proofs.Accepting.{bounded-room}
+use Rattle.admission.proofs.Accepting.{bounded-room}
 use Rattle.verdict.proofs.Judging.{conflict-deep, clear-deep}
 use Rattle.verdict.specs.Verdict.{insertDeep}
 use borrow.Author.Needs.{needs}

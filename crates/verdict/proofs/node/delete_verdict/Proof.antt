@@ -1,6 +1,6 @@
 -- The check, and where it is fine the way.
 use mathlib.Core.Path.{sym, _∙_}
-use Rattle.verdict.proofs.Accepting.{delete-bounded, delete-deep, delete-room}
+use Rattle.admission.proofs.Accepting.{delete-bounded, delete-deep, delete-room}
 use Rattle.verdict.proofs.Judging.{judged-on, judged-off}
 use Rattle.verdict.proofs.Promise.{delete-promise}
 use native.Mathlib.Omega.{arith}

@@ -1,0 +1,2 @@
+-- Laws of one step at one node.
+pub mod Branches

@@ -1,0 +1,2 @@
+-- What the inside of reading holds, one step at one node.
+pub mod Bytes
