@@ -12,7 +12,7 @@ use Rattle.tables.specs.declared.refusal.Refusal.{Refusal}
 use Rattle.tables.specs.declared.refusal.Checked.{Checked}
 use Rattle.tables.specs.declared.refusal.Checked.the-variants.{Fine, Refused}
 use Rattle.tables.proofs.Accepted.{held, then-first, then-second}
-use Rattle.tables.proofs.Soundness.{accepted-pattern, node-falls, document-nodes}
+use Rattle.tables.proofs.Soundness.{accepted-pattern, node-falls, document-nodes, used-facts}
 use Rattle.selection.specs.Operations.{readRow}
 use Rattle.reading.specs.States.{Readable}
 use Rattle.readable.specs.Readable.{readCheck}
@@ -48,6 +48,7 @@ module _ (p : List ℕ) (table : ℕ) (d : Doc) (before : List ℕ) {got : Check
         some = accepted-pattern p stepLimit table (fine-pattern p table d (length before) fine) .some;
         ready =
             record {
+              words = used-facts d (fine-document p table d (length before) fine) .2;
               long = fine-room p table d (length before) fine;
               parents = node-falls (d .rows) 5 (d .used) (document-nodes d (fine-document p table d (length before) fine));
             };

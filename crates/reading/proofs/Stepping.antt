@@ -12,7 +12,7 @@ use Rattle.selection.proofs.Filling.{row-new, row-long, row-twice, row-again}
 -- writing the bytes of the used nodes keeps a row ready
 pub ready-on : (t : List ℕ) (used : ℕ) (old : List ℕ) → Ready t used old → (f : ℕ → ℕ) {row : List ℕ} → row ≡ tab f used ++ drop used old → Ready t used row
 ready-on t used old ready f e =
-    record { long = rw (row-long f old used e (ready .long)) (ready .long); parents = ready .parents }
+    record { words = ready .words; long = rw (row-long f old used e (ready .long)) (ready .long); parents = ready .parents }
 
 module _ (p t : List ℕ) (used : ℕ) (old : List ℕ) (ready : Ready t used old) where
   module _ {clear : List ℕ} (e : clear ≡ tab (λ _. 0) used ++ drop used old) where

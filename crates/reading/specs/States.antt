@@ -1,5 +1,5 @@
 -- What the row holds while steps are taken one after another: at each node whether the last step taken stands there, and the one before it.
-use Prim.Native.Nat.{ℕ, zero, suc, _<_, _≤_}
+use Prim.Native.Nat.{ℕ, zero, suc, _/_, _<_, _≤_}
 use mathlib.Core.Path.{_≡_}
 use mathlib.Core.Bool.{Bool, false, _&&_, cond}
 use mathlib.Core.List.{List}
@@ -19,8 +19,9 @@ unfoldable pub held : List ℕ → List ℕ → ℕ → ℕ → ℕ
 held p t zero v = 0
 held p t (suc i) v = packed (stands p t (suc i) v) (stands p t i v)
 
--- parents fall, and the row has a byte for each used node
+-- parents fall, and the table has two words and the row a byte for each used node
 pub record Ready (t : List ℕ) (used : ℕ) (row : List ℕ) : Type 0 where
+  pub words : used ≤ length t / 2
   pub long : used ≤ length row
   pub parents : (v : ℕ) → 0 < v → v < used → parent t v < v
 

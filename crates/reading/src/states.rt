@@ -1,7 +1,11 @@
 // The row while steps are taken one after another, a byte a node.
+use crate::nodes::byte_at;
+use crate::nodes::label_at;
+use crate::nodes::parent_at;
+use stepping::stays;
 use stepping::taken;
 use tables::words::byte;
-use tables::words::first_word;
+use tables::words::second_word;
 ghost use Prim.Native.Nat.{suc, _≤_};
 ghost use mathlib.Core.Path.{_≡_};
 ghost use mathlib.Core.List.{_++_};
@@ -27,11 +31,14 @@ fn step(p: &[u16], i: usize, rows: &[u16], used: usize, row: &mut [u8])
     requires { ⌜ After (now p) (now rows) i used (now row) ⌝ }
     ensures { λ _. ⌜ now (row .exit) ≡ tab (held (now (p .entry)) (now (rows .entry)) (suc i)) used ++ drop used (now (row .entry)) ⌝ }
 {
+    let name = second_word(p, i);
+    let staying = stays(p, i);
     let mut v = 0;
     while v < used {
-        let own = byte(row, v);
-        let above = byte(row, first_word(rows, v));
-        row[v] = taken(p, i, rows, v, above, own);
+        let own = byte_at(row, v);
+        let above = byte(row, parent_at(rows, v));
+        let label = label_at(rows, v);
+        row[v] = taken(name, staying, i, v, label, above, own);
         v += 1;
     }
 }

@@ -21,8 +21,8 @@ use Rattle.lines.specs.Lines.{ReadAs, WrittenAs}
 use Rattle.lines.proofs.Promise.{read-one as line-one, write-one}
 use Rattle.printer.specs.Printer.{PrintedAs}
 use Rattle.printer.proofs.Settled.{printed-one}
-use Rattle.sloefertand.specs.Answers.{Told, ofChecked, ofDeleted, ofInserted, ofVerdict, ofDeeply, ofPlanned, ofParsed, ofSpelled, ofPrinted}
-use Rattle.sloefertand.specs.declared.answer.Answer.{Answer}
+use Rattle.answers.specs.Answers.{Told, ofChecked, ofDeleted, ofInserted, ofVerdict, ofDeeply, ofPlanned, ofParsed, ofSpelled, ofPrinted}
+use Rattle.answers.specs.declared.answer.Answer.{Answer}
 
 -- where the promises settle the answer and something more by its numbers, so do the numbers
 told-one : {E : Type 0} {numbers : E → Answer} {P Q : E → Type 0} (more : Answer → Type 0) {a b : Answer} →

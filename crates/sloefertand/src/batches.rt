@@ -1,13 +1,13 @@
 // Walking a batch, and its plan.
-use crate::answer::Answer;
-use crate::numbers::planned;
-use crate::numbers::stepped;
+use answers::answer::Answer;
+use answers::numbers::planned;
+use answers::numbers::stepped;
 use batch::plan::plan;
 use walker::step;
 ghost use mathlib.Core.Path.{_≡_};
 ghost use Rattle.walker.specs.Walker.{stepAt};
 ghost use Rattle.batch.specs.Batch.{Plan};
-ghost use Rattle.sloefertand.specs.Answers.{Told, ofStepped, ofPlanned};
+ghost use Rattle.answers.specs.Answers.{Told, ofStepped, ofPlanned};
 
 // Frame n at a place of the batch. First: its kind, 0 where none is left; second: where it ends; third: its steps; fourth: its nodes.
 #[no_mangle]

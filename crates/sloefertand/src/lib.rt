@@ -1,8 +1,6 @@
 // The library for C and Rust: every public operation over lent slices and plain numbers, with one form of answer.
-pub mod answer;
 pub mod batches;
 pub mod checking;
-mod numbers;
 pub mod operations;
 pub mod texts;
 pub mod verdicts;

@@ -1,8 +1,8 @@
 // Reading and updating a document.
-use crate::answer::Answer;
-use crate::numbers::checked;
-use crate::numbers::deleted;
-use crate::numbers::inserted;
+use answers::answer::Answer;
+use answers::numbers::checked;
+use answers::numbers::deleted;
+use answers::numbers::inserted;
 use deleting::delete;
 use inserting::insert;
 use plain::plain_reading;
@@ -11,7 +11,7 @@ ghost use Rattle.tables.specs.Documents.{doc};
 ghost use Rattle.reading.specs.Reading.{Read};
 ghost use Rattle.plain.specs.Plain.{PlainRead};
 ghost use Rattle.updating.specs.Updating.{Delete, Insert};
-ghost use Rattle.sloefertand.specs.Answers.{Told, ofChecked, ofDeleted, ofInserted};
+ghost use Rattle.answers.specs.Answers.{Told, ofChecked, ofDeleted, ofInserted};
 
 // Read: one byte a used node, 1 if the pattern selects it, else 0. No value.
 #[no_mangle]

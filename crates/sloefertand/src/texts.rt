@@ -1,14 +1,14 @@
 // Lines of hexadecimal digits, and the printed plan.
-use crate::answer::Answer;
-use crate::numbers::parsed;
-use crate::numbers::printed;
-use crate::numbers::spelled;
+use answers::answer::Answer;
+use answers::numbers::parsed;
+use answers::numbers::printed;
+use answers::numbers::spelled;
 use lines::read_line;
 use lines::write_line;
 use printer::print;
 ghost use Rattle.lines.specs.Lines.{ReadAs, WrittenAs};
 ghost use Rattle.printer.specs.Printer.{PrintedAs};
-ghost use Rattle.sloefertand.specs.Answers.{Told, ofParsed, ofSpelled, ofPrinted};
+ghost use Rattle.answers.specs.Answers.{Told, ofParsed, ofSpelled, ofPrinted};
 
 // From a line's bytes to its words; the line's number is its place in a refusal. First: the words.
 #[no_mangle]

@@ -7,16 +7,16 @@ use native.Mathlib.Numerals.{add-one}
 use native.Mathlib.Omega.{arith}
 use lib.Dec.{eqb}
 use borrow.Author.Tests.{eq-eqb, ne-eqb, lt-ltb, le-ltb, le-leb, lt-leb}
-use Rattle.tables.specs.Words.{steps, axis, label, tag}
-use Rattle.selection.specs.Ways.{takes, stays}
-use Rattle.stepping.specs.Bytes.{packed, low, under, reached}
+use Rattle.tables.specs.Words.{steps, axis}
+use Rattle.selection.specs.Ways.{stays}
+use Rattle.stepping.specs.Bytes.{packed, low, agrees, under, reached}
 
-module _ (p : List ℕ) (i l own : ℕ) (e : own ≡ label p i) where
-  pub takes-any : own ≡ 0 → true ≡ takes p i l
-  takes-any h = rw (← e, h)
+module _ (name l : ℕ) where
+  pub agrees-any : name ≡ 0 → true ≡ agrees name l
+  agrees-any h = rw h
 
-  pub takes-name : (own ≡ 0 → ⊥) → eqb own l ≡ takes p i l
-  takes-name h = rw (← e, ne-eqb own 0 h)
+  pub agrees-name : (name ≡ 0 → ⊥) → eqb name l ≡ agrees name l
+  agrees-name h = rw (ne-eqb name 0 h)
 
 module _ (p : List ℕ) (i : ℕ) where
   pub stays-out : steps p ≤ i → false ≡ stays p false i
@@ -29,36 +29,36 @@ module _ (p : List ℕ) (i : ℕ) where
   stays-axis h e = rw (lt-ltb (suc i) (steps p) (omega arith), e, add-one)
 
 -- a flag that decides the first of two tests
-module _ {flag b : Bool} (x : Bool) (e : flag ≡ b) where
-  pub and-on : flag ≡ true → x ≡ (b && x)
-  and-on h = rw (← e, h)
+module _ (x : Bool) {flag : Bool} where
+  pub and-on : flag ≡ true → x ≡ (flag && x)
+  and-on h = rw h
 
-  pub and-off : flag ≡ false → false ≡ (b && x)
-  and-off h = rw (← e, h)
+  pub and-off : flag ≡ false → false ≡ (flag && x)
+  and-off h = rw h
 
-module _ (p : List ℕ) (i l above : ℕ) {stayed : Bool} (e : stayed ≡ (stays p false i && low above)) where
-  pub under-stays : above < 2 → stayed ≡ under p i l above
+module _ (name : ℕ) (staying : Bool) (l above : ℕ) {stayed : Bool} (e : stayed ≡ (staying && low above)) where
+  pub under-stays : above < 2 → stayed ≡ under name staying l above
   unfolding under
   under-stays h = rw (lt-leb 2 above h, and-false) e
 
-  pub under-lands : {flag : Bool} → 2 ≤ above → flag ≡ takes p i l → flag ≡ true → true ≡ under p i l above
+  pub under-lands : {flag : Bool} → 2 ≤ above → flag ≡ agrees name l → flag ≡ true → true ≡ under name staying l above
   unfolding under
   under-lands h t k = rw (le-leb 2 above h, ← t, k)
 
-  pub under-other : {flag : Bool} → 2 ≤ above → flag ≡ takes p i l → flag ≡ false → stayed ≡ under p i l above
+  pub under-other : {flag : Bool} → 2 ≤ above → flag ≡ agrees name l → flag ≡ false → stayed ≡ under name staying l above
   unfolding under
   under-other h t k = rw (← t, k) e
 
-module _ (p : List ℕ) (i v l above : ℕ) where
-  pub reached-under : {flag : Bool} → (v ≡ 0 → ⊥) → flag ≡ under p i l above → flag ≡ reached p i v l above
+module _ (name : ℕ) (staying : Bool) (i v l above : ℕ) where
+  pub reached-under : {flag : Bool} → (v ≡ 0 → ⊥) → flag ≡ under name staying l above → flag ≡ reached name staying i v l above
   unfolding reached
   reached-under h e = rw (ne-eqb v 0 h) e
 
-  pub reached-late : v ≡ 0 → (i ≡ 0 → ⊥) → false ≡ reached p i v l above
+  pub reached-late : v ≡ 0 → (i ≡ 0 → ⊥) → false ≡ reached name staying i v l above
   unfolding reached
   reached-late z h = rw (eq-eqb v 0 z, ne-eqb i 0 h)
 
-  pub reached-first : {flag : Bool} → v ≡ 0 → i ≡ 0 → flag ≡ takes p i l → flag ≡ reached p i v l above
+  pub reached-first : {flag : Bool} → v ≡ 0 → i ≡ 0 → flag ≡ agrees name l → flag ≡ reached name staying i v l above
   unfolding reached
   reached-first z h e = rw (eq-eqb v 0 z, eq-eqb i 0 h) e
 
@@ -75,6 +75,6 @@ module _ {stands : Bool} (own : ℕ) where
   pub packed-none : (own % 2 ≡ 1 → ⊥) → stands ≡ false → 0 ≡ packed stands (low own)
   packed-none h e = rw (e, ne-eqb (own % 2) 1 h)
 
--- a node's label, where its step stands, and its byte
-pub taken-byte : (p t : List ℕ) (i v above own : ℕ) {l b : ℕ} {stands : Bool} → l ≡ tag t v → stands ≡ reached p i v l above → b ≡ packed stands (low own) → b ≡ packed (reached p i v (tag t v) above) (low own)
-taken-byte p t i v above own e q w = rw (← e, ← q) w
+-- where the step stands, and the byte
+pub taken-byte : {stands at : Bool} {b : ℕ} (own : ℕ) → stands ≡ at → b ≡ packed stands (low own) → b ≡ packed at (low own)
+taken-byte own q w = rw (← q) w

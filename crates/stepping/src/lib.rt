@@ -1,25 +1,22 @@
 // One step of a pattern at one node: the byte after it holds whether the step stands at the node (1) and whether the step before it did (2).
 use tables::words::first_word;
-use tables::words::second_word;
 ghost use mathlib.Core.Path.{_≡_};
 ghost use mathlib.Core.Bool.{false, _&&_};
-ghost use Rattle.tables.specs.Words.{tag};
-ghost use Rattle.selection.specs.Ways.{takes, stays};
-ghost use Rattle.stepping.specs.Bytes.{packed, low, under, reached};
+ghost use Rattle.selection.specs.Ways.{stays};
+ghost use Rattle.stepping.specs.Bytes.{packed, low, agrees, under, reached};
 
-// Whether step i takes a label: a wildcard any, a name its own.
-fn takes(p: &[u16], i: usize, label: usize) -> bool
-    ensures { λ r. ⌜ r ≡ takes (now (p .entry)) i label ⌝ }
+// Whether a step of this name takes a label: a wildcard any, a name its own.
+fn agrees(name: usize, label: usize) -> bool
+    ensures { λ r. ⌜ r ≡ agrees name label ⌝ }
 {
-    let own = second_word(p, i);
-    if own == 0 {
+    if name == 0 {
         return true;
     }
-    own == label
+    name == label
 }
 
 // Whether the next axis is descendant, so that step i, once landed, also stays for every node below.
-fn stays(p: &[u16], i: usize) -> bool
+pub fn stays(p: &[u16], i: usize) -> bool
     ensures { λ r. ⌜ r ≡ stays (now (p .entry)) false i ⌝ }
 {
     let n = p.len() / 2;
@@ -32,39 +29,39 @@ fn stays(p: &[u16], i: usize) -> bool
     first_word(p, i + 1) == 2
 }
 
-// Whether step i, standing at the parent, stays for the node below it.
-fn stayed(p: &[u16], i: usize, above: usize) -> bool
-    ensures { λ r. ⌜ r ≡ (stays (now (p .entry)) false i && low above) ⌝ }
+// Whether a step that stays stands at the parent.
+fn stayed(staying: bool, above: usize) -> bool
+    ensures { λ r. ⌜ r ≡ (staying && low above) ⌝ }
 {
-    if stays(p, i) {
+    if staying {
         return above % 2 == 1;
     }
     false
 }
 
-// Whether step i stands at a node of this label, by its parent's byte.
-fn below(p: &[u16], i: usize, label: usize, above: usize) -> bool
-    ensures { λ r. ⌜ r ≡ under (now (p .entry)) i label above ⌝ }
+// Whether the step stands at a node of this label, by its parent's byte.
+fn below(name: usize, staying: bool, label: usize, above: usize) -> bool
+    ensures { λ r. ⌜ r ≡ under name staying label above ⌝ }
 {
-    let stayed = stayed(p, i, above);
+    let stayed = stayed(staying, above);
     if above < 2 {
         return stayed;
     }
-    if takes(p, i, label) {
+    if agrees(name, label) {
         return true;
     }
     stayed
 }
 
 // Whether step i stands at node v: on the root only the first step lands.
-fn standing(p: &[u16], i: usize, v: usize, label: usize, above: usize) -> bool
-    ensures { λ r. ⌜ r ≡ reached (now (p .entry)) i v label above ⌝ }
+fn standing(name: usize, staying: bool, i: usize, v: usize, label: usize, above: usize) -> bool
+    ensures { λ r. ⌜ r ≡ reached name staying i v label above ⌝ }
 {
     if v != 0 {
-        return below(p, i, label, above);
+        return below(name, staying, label, above);
     }
     if i == 0 {
-        return takes(p, i, label);
+        return agrees(name, label);
     }
     false
 }
@@ -85,11 +82,17 @@ fn paired(stands: bool, own: usize) -> u8
     0
 }
 
-// Node v's byte after step i, from its parent's byte after that step and its own before it.
-pub fn taken(p: &[u16], i: usize, rows: &[u16], v: usize, above: usize, own: usize) -> u8
-    ensures { λ r. ⌜ r ≡ packed (reached (now (p .entry)) i v (tag (now (rows .entry)) v) above) (low own) ⌝ }
+// Node v's byte after step i, from its label, its parent's byte after that step and its own before it.
+pub fn taken(
+    name: usize,
+    staying: bool,
+    i: usize,
+    v: usize,
+    label: usize,
+    above: usize,
+    own: usize,
+) -> u8
+    ensures { λ r. ⌜ r ≡ packed (reached name staying i v label above) (low own) ⌝ }
 {
-    let label = second_word(rows, v);
-    let stands = standing(p, i, v, label, above);
-    paired(stands, own)
+    paired(standing(name, staying, i, v, label, above), own)
 }

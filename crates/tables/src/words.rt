@@ -23,20 +23,20 @@ pub fn word(t: &[u16], i: usize) -> usize
 pub fn first_word(t: &[u16], v: usize) -> usize
     ensures { λ r. ⌜ r ≡ parent (now (t .entry)) v ⌝ }
 {
-    if t.len() <= v {
-        return 0;
+    if v < t.len() - t.len() / 2 {
+        return wide(t[2 * v]);
     }
-    word(t, 2 * v)
+    0
 }
 
 // The second word of pair v: a step's or a node's label.
 pub fn second_word(t: &[u16], v: usize) -> usize
     ensures { λ r. ⌜ r ≡ tag (now (t .entry)) v ⌝ }
 {
-    if t.len() <= v {
-        return 0;
+    if v < t.len() / 2 {
+        return wide(t[2 * v + 1]);
     }
-    word(t, 2 * v + 1)
+    0
 }
 
 fn small(x: u8) -> usize

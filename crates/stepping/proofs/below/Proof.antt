@@ -11,5 +11,5 @@ below-spec =
     (λ c κs. search needs)
     (λ c. search under-stays)
     (λ c κs. search needs)
-    (λ c. under-lands _ _ _ _ (c .before .before .before .stayed .ensures) (c .before .before .if1 .left) (c .before .takes .ensures) (c .if2 .taken))
-    (λ c. under-other _ _ _ _ (c .before .before .before .stayed .ensures) (c .before .before .if1 .left) (c .before .takes .ensures) (c .if2 .left)))
+    (λ c. under-lands _ _ _ _ (c .before .before .before .stayed .ensures) (c .before .before .if1 .left) (c .before .agrees .ensures) (c .if2 .taken))
+    (λ c. under-other _ _ _ _ (c .before .before .before .stayed .ensures) (c .before .before .if1 .left) (c .before .agrees .ensures) (c .if2 .left)))

@@ -1,5 +1,4 @@
 -- The branches of the code are those of the definition.
-use borrow.Author.Needs.{needs}
 use Rattle.stepping.proofs.Branches.{and-on, and-off}
 use Rattle.stepping.proofs.stayed.Statement.{statement}
 use Rattle.stepping.proofs.stayed.Tie as tie
@@ -8,6 +7,5 @@ pub stayed-spec : {M : Type 1} → statement M
 stayed-spec =
     tie.close
     (tie.spec
-    (λ c κs. search needs)
-    (λ c. and-on _ (c .before .stays .ensures) (c .if1 .taken))
-    (λ c. and-off _ (c .before .stays .ensures) (c .if1 .left)))
+    (λ c. and-on _ (c .if1 .taken))
+    (λ c. and-off _ (c .if1 .left)))

@@ -1,4 +1,4 @@
--- The label, where the step stands, then the byte.
+-- Where the step stands, then the byte.
 use borrow.Author.Needs.{needs}
 use Rattle.stepping.proofs.Branches.{taken-byte}
 use Rattle.stepping.proofs.taken.Statement.{statement}
@@ -10,6 +10,4 @@ taken-spec =
     (tie.spec
     (λ c κs. search needs)
     (λ c κs. search needs)
-    (λ c κs. search needs)
-    (λ c. taken-byte _ (c .before .before .before .before .before .args .rows .now) _ _ _ (c .before .before .before .before .before .args .own)
-    (c .before .before .second-word .ensures) (c .before .standing .ensures) (c .paired .ensures)))
+    (λ c. taken-byte (c .before .before .args .own) (c .before .standing .ensures) (c .paired .ensures)))

@@ -1,7 +1,7 @@
 -- The numbers of the walker's step.
 use borrow.Author.Needs.{needs}
-use Rattle.sloefertand.specs.Answers.{ofStepped}
-use Rattle.sloefertand.proofs.Shown.{of-promise}
+use Rattle.answers.specs.Answers.{ofStepped}
+use Rattle.answers.proofs.Shown.{of-promise}
 use Rattle.sloefertand.proofs.batches.sloefertand_step.Statement.{statement}
 use Rattle.sloefertand.proofs.batches.sloefertand_step.Tie as tie
 

@@ -1,7 +1,7 @@
 -- The numbers of the pattern's check.
 use borrow.Author.Needs.{needs}
-use Rattle.sloefertand.specs.Answers.{ofChecked}
-use Rattle.sloefertand.proofs.Shown.{of-promise}
+use Rattle.answers.specs.Answers.{ofChecked}
+use Rattle.answers.proofs.Shown.{of-promise}
 use Rattle.sloefertand.proofs.checking.sloefertand_check_pattern.Statement.{statement}
 use Rattle.sloefertand.proofs.checking.sloefertand_check_pattern.Tie as tie
 

@@ -1,0 +1,46 @@
+//! How each grows from small to full size.
+
+use crate::documents::Document;
+use crate::measure::text;
+use crate::rows::{delete_verdict, insert_verdict, plan, read_document, reads};
+
+/// A size: its time, and how much more than at the size before.
+fn print_size(what: &str, size: usize, times: &[f64], before: &mut Option<f64>) {
+    let more = before.map_or("–".to_string(), |last| format!("{:.1}", times[0] / last));
+    println!(
+        "| {what} | {size} | {} | {more} | {:.2} |",
+        text(times[0]),
+        times[0] / times[1]
+    );
+    *before = Some(times[0]);
+}
+
+/// All sizes of one kind.
+fn print_sizes(what: &str, sizes: &[usize], run: impl Fn(usize) -> Vec<f64>) {
+    let mut before = None;
+    for &size in sizes {
+        print_size(what, size, &run(size), &mut before);
+    }
+}
+
+/// The table: each size is twice the one before.
+pub fn print() {
+    println!("| what | size | proved library | times the size before | proved / peer |");
+    println!("|---|---|---|---|---|");
+    print_sizes("verdict, steps of each pattern", &[2, 4, 8, 16, 32, 64], delete_verdict);
+    print_sizes("verdict of 64 steps, inserted nodes", &[16, 32, 64, 128, 256], |n| {
+        insert_verdict(64, n)
+    });
+    print_sizes("plan, frames of 63 steps", &[8, 16, 32, 64, 128], |n| plan(n, 63));
+    let read = &reads()[1];
+    print_sizes(
+        "read of 4 steps, nodes of a random tree",
+        &[64, 128, 256, 512, 1024, 2048, 4096],
+        |n| read_document(&Document::random(n), read),
+    );
+    print_sizes(
+        "read of 4 steps, nodes of a chain",
+        &[64, 128, 256, 512, 1024, 2048, 4096],
+        |n| read_document(&Document::chain(n), read),
+    );
+}

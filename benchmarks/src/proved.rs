@@ -1,0 +1,115 @@
+//! The proved library, called through its C interface.
+
+/// What every call returns.
+#[repr(C)]
+#[derive(Clone, Copy, Debug, PartialEq, Eq)]
+pub struct Answer {
+    pub refusal: usize,
+    pub table: usize,
+    pub place: usize,
+    pub first: usize,
+    pub second: usize,
+    pub third: usize,
+    pub fourth: usize,
+}
+
+#[link(name = "sloefertand", kind = "static")]
+extern "C" {
+    fn sloefertand_read(
+        pattern: *const u16,
+        pattern_words: usize,
+        rows: *const u16,
+        rows_words: usize,
+        marks: *const u8,
+        marks_bytes: usize,
+        used: usize,
+        row: *mut u8,
+        row_bytes: usize,
+    ) -> Answer;
+    fn sloefertand_delete_verdict(
+        read: *const u16,
+        read_words: usize,
+        update: *const u16,
+        update_words: usize,
+        witness: *mut u16,
+        witness_words: usize,
+    ) -> Answer;
+    fn sloefertand_insert_verdict(
+        read: *const u16,
+        read_words: usize,
+        update: *const u16,
+        update_words: usize,
+        tree: *const u16,
+        tree_words: usize,
+        witness: *mut u16,
+        witness_words: usize,
+    ) -> Answer;
+    fn sloefertand_plan(batch: *const u16, batch_words: usize, plan: *mut u16, plan_words: usize) -> Answer;
+}
+
+/// A count, or the number of a refusal.
+pub type Counted = Result<usize, usize>;
+
+/// The first value, or the refusal's number.
+fn counted(answer: Answer) -> Counted {
+    match answer.refusal {
+        0 => Ok(answer.first),
+        number => Err(number),
+    }
+}
+
+/// A byte a node in use: 1 where the pattern selects it.
+pub fn read(pattern: &[u16], rows: &[u16], marks: &[u8], used: usize, row: &mut [u8]) -> Counted {
+    // The pointers and lengths are those of live slices, and `row` overlaps none of the others.
+    counted(unsafe {
+        sloefertand_read(
+            pattern.as_ptr(),
+            pattern.len(),
+            rows.as_ptr(),
+            rows.len(),
+            marks.as_ptr(),
+            marks.len(),
+            used,
+            row.as_mut_ptr(),
+            row.len(),
+        )
+    })
+}
+
+/// The nodes of a smallest witness, 0 for no conflict.
+pub fn delete_verdict(read: &[u16], update: &[u16], witness: &mut [u16]) -> Counted {
+    // As in `read`.
+    counted(unsafe {
+        sloefertand_delete_verdict(
+            read.as_ptr(),
+            read.len(),
+            update.as_ptr(),
+            update.len(),
+            witness.as_mut_ptr(),
+            witness.len(),
+        )
+    })
+}
+
+/// The same for an insert of a tree.
+pub fn insert_verdict(read: &[u16], update: &[u16], tree: &[u16], witness: &mut [u16]) -> Counted {
+    // As in `read`.
+    counted(unsafe {
+        sloefertand_insert_verdict(
+            read.as_ptr(),
+            read.len(),
+            update.as_ptr(),
+            update.len(),
+            tree.as_ptr(),
+            tree.len(),
+            witness.as_mut_ptr(),
+            witness.len(),
+        )
+    })
+}
+
+/// The plan of a batch; the number of frames.
+pub fn plan(batch: &[u16], plan: &mut [u16]) -> Counted {
+    // As in `read`.
+    counted(unsafe { sloefertand_plan(batch.as_ptr(), batch.len(), plan.as_mut_ptr(), plan.len()) })
+}

@@ -1,0 +1,160 @@
+//! The rows at full size.
+
+use crate::documents::{read, Document, Read};
+use crate::inputs::{batch, depth, descending, random_tree};
+use crate::measure::{fastest, text};
+use crate::{peer, proved};
+use std::hint::black_box;
+
+/// Room for any witness.
+pub const WITNESS: usize = 254;
+
+/// A row's name, its times and how many answers were compared.
+fn print_row(name: &str, times: &[f64]) {
+    let ratio = times[0] / times[1];
+    let third = match times.get(2) {
+        Some(time) => format!("{} | {:.0}", text(*time), time / times[0]),
+        None => "– | –".to_string(),
+    };
+    println!(
+        "| {name} | {} | {} | {ratio:.2} | {third} |",
+        text(times[0]),
+        text(times[1])
+    );
+}
+
+/// A delete verdict of so many steps each, whose witness is as long as the bound.
+pub fn delete_verdict(steps: usize) -> Vec<f64> {
+    let (read, update) = (descending(steps, 1, 2), descending(steps, 1, 3));
+    let (mut a, mut b) = ([0; WITNESS], [0; WITNESS]);
+    let found = proved::delete_verdict(&read, &update, &mut a);
+    assert_eq!(found, peer::verdict::delete_verdict(&read, &update, &mut b));
+    assert_eq!((found, a), (Ok(2 * steps - 1), b));
+    let mut ours = || {
+        let _ = black_box(proved::delete_verdict(black_box(&read), &update, &mut a));
+    };
+    let mut theirs = || {
+        let _ = black_box(peer::verdict::delete_verdict(black_box(&read), &update, &mut b));
+    };
+    fastest(&mut [&mut ours, &mut theirs])
+}
+
+/// An insert verdict of so many steps each and an inserted tree of so many nodes.
+pub fn insert_verdict(steps: usize, nodes: usize) -> Vec<f64> {
+    let (read, update) = (descending(steps, 1, 2), descending(steps, 1, 3));
+    let tree = random_tree(nodes, 4);
+    let (mut a, mut b) = ([0; WITNESS], [0; WITNESS]);
+    let found = proved::insert_verdict(&read, &update, &tree, &mut a);
+    assert_eq!(found, peer::verdict::insert_verdict(&read, &update, &tree, &mut b));
+    assert_eq!(a, b);
+    let mut ours = || {
+        let _ = black_box(proved::insert_verdict(black_box(&read), &update, &tree, &mut a));
+    };
+    let mut theirs = || {
+        let _ = black_box(peer::verdict::insert_verdict(black_box(&read), &update, &tree, &mut b));
+    };
+    fastest(&mut [&mut ours, &mut theirs])
+}
+
+/// A plan of so many frames, half deletes and half reads, of so many steps.
+pub fn plan(frames: usize, steps: usize) -> Vec<f64> {
+    let words = batch(frames, steps);
+    let (mut a, mut b) = (vec![0; frames], vec![0; frames]);
+    assert_eq!(proved::plan(&words, &mut a), Ok(frames));
+    assert_eq!(peer::plan::plan(&words, &mut b), Ok(frames));
+    assert_eq!(a, b);
+    let mut ours = || {
+        let _ = black_box(proved::plan(black_box(&words), &mut a));
+    };
+    let mut theirs = || {
+        let _ = black_box(peer::plan::plan(black_box(&words), &mut b));
+    };
+    fastest(&mut [&mut ours, &mut theirs])
+}
+
+/// A read of a document, beside the peer and, where it is built in and the read has a text for it, libxml2.
+pub fn read_document(document: &Document, read: &Read) -> Vec<f64> {
+    let Document { rows, marks, used, .. } = document;
+    let (mut a, mut b) = (vec![2; *used], vec![2; *used]);
+    assert_eq!(proved::read(&read.words, rows, marks, *used, &mut a), Ok(0));
+    assert_eq!(peer::read::read(&read.words, rows, marks, *used, &mut b), Ok(0));
+    assert_eq!(a, b);
+    let mut times = {
+        let mut ours = || {
+            let _ = black_box(proved::read(black_box(&read.words), rows, marks, *used, &mut a));
+        };
+        let mut theirs = || {
+            let _ = black_box(peer::read::read(black_box(&read.words), rows, marks, *used, &mut b));
+        };
+        fastest(&mut [&mut ours, &mut theirs])
+    };
+    times.extend(read.text.as_ref().and_then(|text| xpath_time(rows, text, &a)));
+    times
+}
+
+/// libxml2's time for a path that selects these nodes.
+#[cfg(feature = "libxml2")]
+fn xpath_time(rows: &[u16], text: &str, selected: &[u8]) -> Option<f64> {
+    let tree = crate::xpath::Tree::of(rows);
+    let path = crate::xpath::Path::of(text);
+    if !crate::patience::answers(rows, text) {
+        return None;
+    }
+    assert_eq!(tree.selected(&path), selected);
+    let mut xpath = || {
+        black_box(tree.count(black_box(&path)));
+    };
+    fastest(&mut [&mut xpath]).pop()
+}
+
+/// Without libxml2 there is none.
+#[cfg(not(feature = "libxml2"))]
+fn xpath_time(_: &[u16], _: &str, _: &[u8]) -> Option<f64> {
+    None
+}
+
+/// The reads that are timed.
+pub fn reads() -> Vec<Read> {
+    vec![
+        read(&[(0, 1), (2, 2)]),
+        read(&[(0, 1), (2, 2), (1, 0), (2, 3)]),
+        read(&[(0, 1), (2, 2), (2, 3), (2, 4), (1, 1)]),
+    ]
+}
+
+/// The table.
+pub fn print() {
+    println!("| what | proved library | Rust peer | proved / peer | libxml2 XPath | libxml2 / proved |");
+    println!("|---|---|---|---|---|---|");
+    print_row(
+        "verdict, 64 against 64 steps, witness of 127 nodes",
+        &delete_verdict(64),
+    );
+    print_row(
+        "verdict, 64 against 64 steps, 256 inserted nodes",
+        &insert_verdict(64, 256),
+    );
+    print_row("plan, 128 frames of 63 steps, 4,096 verdicts", &plan(128, 63));
+    for document in [Document::random(4096), Document::chain(4096)] {
+        for read in reads() {
+            let name = format!(
+                "read `{}`, {}, 4,096 nodes, {} deep",
+                read.text.as_deref().unwrap_or_default(),
+                document.name,
+                depth(&document.rows)
+            );
+            print_row(&name, &read_document(&document, &read));
+        }
+        let long = read_of_64_steps();
+        let name = format!("read of 64 steps, {}, 4,096 nodes", document.name);
+        print_row(&name, &read_document(&document, &long));
+    }
+}
+
+/// A pattern of 64 descendant steps; libxml2's answer to such a path is not waited for.
+fn read_of_64_steps() -> Read {
+    Read {
+        text: None,
+        words: descending(64, 1, 0),
+    }
+}

@@ -1,0 +1,140 @@
+//! libxml2's XPath on the same tree, called through its C interface. Only what is used here is declared.
+
+use std::ffi::{c_char, c_int, c_void, CString};
+use std::ptr;
+
+/// The front of a node: a pointer for the application, here the node's number.
+#[repr(C)]
+struct Node {
+    number: *mut c_void,
+}
+
+/// A set of nodes.
+#[repr(C)]
+struct NodeSet {
+    count: c_int,
+    room: c_int,
+    nodes: *mut *mut Node,
+}
+
+/// The front of an answer.
+#[repr(C)]
+struct Object {
+    kind: c_int,
+    nodes: *mut NodeSet,
+}
+
+#[link(name = "xml2")]
+extern "C" {
+    fn xmlNewDoc(version: *const c_char) -> *mut c_void;
+    fn xmlFreeDoc(document: *mut c_void);
+    fn xmlNewNode(namespace: *mut c_void, name: *const c_char) -> *mut Node;
+    fn xmlDocSetRootElement(document: *mut c_void, root: *mut Node) -> *mut Node;
+    fn xmlAddChild(parent: *mut Node, child: *mut Node) -> *mut Node;
+    fn xmlXPathNewContext(document: *mut c_void) -> *mut c_void;
+    fn xmlXPathFreeContext(context: *mut c_void);
+    fn xmlXPathCompile(text: *const c_char) -> *mut c_void;
+    fn xmlXPathFreeCompExpr(path: *mut c_void);
+    fn xmlXPathCompiledEval(path: *mut c_void, context: *mut c_void) -> *mut Object;
+    fn xmlXPathFreeObject(object: *mut Object);
+}
+
+/// A path, compiled once.
+pub struct Path(*mut c_void);
+
+impl Path {
+    pub fn of(text: &str) -> Path {
+        let text = CString::new(text).expect("a path has no zero byte");
+        // The text ends with a zero byte and outlives the call.
+        let path = unsafe { xmlXPathCompile(text.as_ptr()) };
+        assert!(!path.is_null(), "libxml2 compiles the path");
+        Path(path)
+    }
+}
+
+impl Drop for Path {
+    fn drop(&mut self) {
+        // Compiled by `of`, freed once.
+        unsafe { xmlXPathFreeCompExpr(self.0) }
+    }
+}
+
+/// A document of libxml2's and a context to evaluate paths in.
+pub struct Tree {
+    document: *mut c_void,
+    context: *mut c_void,
+    nodes: usize,
+}
+
+impl Tree {
+    /// The tree of a table: element `n` and the label, children in rising number.
+    pub fn of(rows: &[u16]) -> Tree {
+        let mut made: Vec<*mut Node> = Vec::new();
+        // Every pointer comes from libxml2 and is linked into one document, which is freed as a whole.
+        unsafe {
+            let document = xmlNewDoc(ptr::null());
+            for (v, row) in rows.chunks(2).enumerate() {
+                let name = CString::new(format!("n{}", row[1])).expect("a name has no zero byte");
+                let node = xmlNewNode(ptr::null_mut(), name.as_ptr());
+                (*node).number = v as *mut c_void;
+                if v == 0 {
+                    xmlDocSetRootElement(document, node);
+                } else {
+                    xmlAddChild(made[row[0] as usize], node);
+                }
+                made.push(node);
+            }
+            let context = xmlXPathNewContext(document);
+            Tree {
+                document,
+                context,
+                nodes: made.len(),
+            }
+        }
+    }
+
+    /// Evaluates a path and takes its nodes' numbers.
+    fn numbers<T>(&self, path: &Path, take: impl FnOnce(&[*mut Node]) -> T) -> T {
+        // The answer is a set of nodes of this document; it is freed after its numbers were taken.
+        unsafe {
+            let object = xmlXPathCompiledEval(path.0, self.context);
+            assert!(!object.is_null(), "libxml2 evaluates the path");
+            let set = (*object).nodes;
+            let found: &[*mut Node] = if set.is_null() || (*set).count == 0 {
+                &[]
+            } else {
+                std::slice::from_raw_parts((*set).nodes, (*set).count as usize)
+            };
+            let taken = take(found);
+            xmlXPathFreeObject(object);
+            taken
+        }
+    }
+
+    /// How many nodes a path selects.
+    pub fn count(&self, path: &Path) -> usize {
+        self.numbers(path, <[_]>::len)
+    }
+
+    /// A byte a node: 1 where the path selects it.
+    pub fn selected(&self, path: &Path) -> Vec<u8> {
+        let mut row = vec![0; self.nodes];
+        self.numbers(path, |found| {
+            for node in found {
+                // The nodes live as long as the document.
+                row[unsafe { (**node).number } as usize] = 1;
+            }
+        });
+        row
+    }
+}
+
+impl Drop for Tree {
+    fn drop(&mut self) {
+        // Made by `of`, freed once; the context before its document.
+        unsafe {
+            xmlXPathFreeContext(self.context);
+            xmlFreeDoc(self.document);
+        }
+    }
+}

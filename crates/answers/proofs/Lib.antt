@@ -1,0 +1,2 @@
+-- Laws of the answers.
+pub mod Shown

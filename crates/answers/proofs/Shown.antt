@@ -1,0 +1,12 @@
+-- The numbers of equal answers are the same.
+use mathlib.Core.Path.{_≡_, sym, ap, _∙_}
+use Rattle.answers.specs.declared.answer.Answer.{Answer}
+
+module _ {E : Type 0} (numbers : E → Answer) {e f : E} {a : Answer} where
+  -- the numbers of a case are those of the answer that is this case
+  pub of-case : e ≡ f → a ≡ numbers f → a ≡ numbers e
+  of-case same shown = shown ∙ sym (ap numbers same)
+
+  -- the numbers of an answer are those of what it is promised to be
+  pub of-promise : e ≡ f → a ≡ numbers e → a ≡ numbers f
+  of-promise same shown = shown ∙ ap numbers same
