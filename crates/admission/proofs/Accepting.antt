@@ -59,7 +59,7 @@ module _ (r p : List ℕ) (e : patternsCheck r p ≡ Fine) where
   pub patterns-update : Pattern p
   patterns-update = accepted-pattern p stepLimit 2 update-fine
 
-  patterns-bounded : Bounded r p
+  pub patterns-bounded : Bounded r p
   patterns-bounded =
       record {
         reads-some = patterns-read .some;
@@ -123,6 +123,15 @@ module _ (r p : List ℕ) where
     unfolding insertCheck
     insert-room x e = room-fine r p words (then-second (deepInsertCheck r p x) (roomCheck r p words) e)
 
-  -- bounded patterns need no more than the longest witness
-  pub bounded-room : {words : ℕ} → Bounded r p → words ≡ 2 * (stepLimit + stepLimit - 1) → needed r p ≤ words
-  bounded-room b e = omega (arith, b .reads, b .updates)
+  -- the words of the longest witness are room enough
+  longest-room : Bounded r p → Fine ≡ roomCheck r p (2 * (stepLimit + stepLimit - 1))
+  longest-room b = room-long r p (2 * (stepLimit + stepLimit - 1)) (omega (arith, b .reads, b .updates))
+
+  module _ {words : ℕ} (long : words ≡ 2 * (stepLimit + stepLimit - 1)) where
+    pub delete-longest : deepDeleteCheck r p ≡ Fine → deleteCheck r p words ≡ Fine
+    unfolding deleteCheck
+    delete-longest e = rw (e, long, ← longest-room (delete-bounded e))
+
+    pub insert-longest : (x : List ℕ) → deepInsertCheck r p x ≡ Fine → insertCheck r p x words ≡ Fine
+    unfolding insertCheck
+    insert-longest x e = rw (e, long, ← longest-room (insert-bounded x e))

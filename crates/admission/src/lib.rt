@@ -24,7 +24,7 @@ fn room(r: &[u16], p: &[u16], words: usize) -> Checked
 }
 
 // The read, then the update.
-fn patterns_check(r: &[u16], p: &[u16]) -> Checked
+pub fn patterns_check(r: &[u16], p: &[u16]) -> Checked
     ensures { λ c. ⌜ c ≡ patternsCheck (now (r .entry)) (now (p .entry)) ⌝ }
 {
     match pattern(r, STEP_LIMIT, 1) {

@@ -4,15 +4,13 @@ use mathlib.Core.Path.{_≡_, refl}
 use mathlib.Core.Bool.{Bool, true, false, false≢true}
 use mathlib.Core.List.{List}
 use mathlib.Core.Logic.{_↔_}
-use native.Mathlib.Omega.{arith}
 use lib.ListN.{length, take}
 use Rattle.tables.specs.Limits.{stepLimit}
 use Rattle.tables.specs.declared.refusal.Checked.the-variants.{Fine}
 use Rattle.conflict.specs.Conflict.{Update, delete, insert, Conflict}
-use Rattle.admission.specs.Order.{roomCheck, deepDeleteCheck, deepInsertCheck, deleteCheck, insertCheck, verdictCheck}
-use Rattle.admission.specs.Admitted.{Bounded}
+use Rattle.admission.specs.Order.{deepDeleteCheck, deepInsertCheck, verdictCheck}
 use Rattle.verdict.specs.Promise.{NodeVerdict}
-use Rattle.admission.proofs.Accepting.{room-long, delete-bounded, insert-bounded}
+use Rattle.admission.proofs.Accepting.{delete-longest, insert-longest}
 use Rattle.verdict.specs.declared.node.Verdict.{Verdict}
 use Rattle.verdict.specs.declared.node.Verdict.the-variants as verdict
 
@@ -35,15 +33,9 @@ told r u out after (verdict.Refused why) fine v =
 told r u out after verdict.Clear fine v = ((λ e. absurd (false≢true e)), (λ c. absurd (v .none c)))
 told r u out after (verdict.Conflict n) fine v = ((λ e. record { tree = take (2 * n) after; shows = v .witness }), (λ c. refl))
 
--- the verdict's output has room for every witness
-room : (r p : List ℕ) → Bounded r p → Fine ≡ roomCheck r p longest
-room r p bound = room-long r p longest (omega arith)
-
 module _ (r p out after : List ℕ) (answer : Verdict) (long : length out ≡ longest) where
   pub delete-said : deepDeleteCheck r p ≡ Fine → NodeVerdict r (delete p) out after answer → (said answer ≡ true) ↔ Conflict r (delete p)
-  unfolding deleteCheck
-  delete-said e v = told r (delete p) out after answer (rw (e, long, ← room r p (delete-bounded r p e))) v
+  delete-said e v = told r (delete p) out after answer (delete-longest r p long e) v
 
   pub insert-said : (x : List ℕ) → deepInsertCheck r p x ≡ Fine → NodeVerdict r (insert p x) out after answer → (said answer ≡ true) ↔ Conflict r (insert p x)
-  unfolding insertCheck
-  insert-said x e v = told r (insert p x) out after answer (rw (e, long, ← room r p (insert-bounded r p x e))) v
+  insert-said x e v = told r (insert p x) out after answer (insert-longest r p long x e) v

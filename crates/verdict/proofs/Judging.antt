@@ -15,7 +15,7 @@ use Rattle.verdict.specs.declared.deep.Deeply.{Deeply}
 use Rattle.verdict.specs.declared.deep.Deeply.the-variants.{No, Yes, Refused as NotDeep}
 use Rattle.conflict.specs.Crossing.{chain}
 use Rattle.verdict.specs.Verdict.{foundOf}
-use Rattle.verdict.specs.Writing.{Written}
+use Rattle.ways.specs.Ways.{Written}
 
 -- the verdict of a check and a way, and the output after it: the way's chain at the front, where there is one; a refusal changes nothing
 unfoldable pub verdictOf : Checked → ℕ → Verdict

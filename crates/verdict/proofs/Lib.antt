@@ -1,9 +1,3 @@
 -- Laws of the verdict.
-pub mod Branches
-pub mod Cells
-pub mod Choosing
-pub mod Tracing
-pub mod Climbing
-pub mod Writing
 pub mod Judging
 pub mod Promise

@@ -32,7 +32,8 @@ use Rattle.verdict.specs.declared.deep.Deeply.{Deeply}
 use Rattle.verdict.specs.declared.deep.Deeply.the-variants.{No, Yes, Refused as NotDeep}
 use Rattle.admission.specs.Order.{verdictCheck, deepCheck, deepDeleteCheck, deepInsertCheck, deleteCheck, insertCheck}
 use Rattle.verdict.specs.Promise.{NodeVerdict, DeepVerdict, witnessNodes}
-use Rattle.verdict.specs.Verdict.{touches, foundOf, deleteDeep, insertDeep}
+use Rattle.ways.specs.Ways.{touches}
+use Rattle.verdict.specs.Verdict.{foundOf, deleteDeep, insertDeep}
 use Rattle.admission.proofs.Accepting.{patterns-read, patterns-update, delete-patterns, delete-bounded, delete-two, delete-deep, delete-room, insert-patterns, insert-bounded, insert-tree, insert-deep, insert-room}
 use Rattle.verdict.proofs.Judging.{verdictOf, outputOf, Judged, deeplyOf}
 

@@ -1,7 +1,3 @@
--- What a reader must believe of the verdicts is Promise; the others are how they are found, and need not be believed.
+-- What a reader must believe of the verdicts is Promise; Verdict is what their inside holds, and need not be believed.
 pub mod Promise
 pub mod Verdict
-pub mod Cells
-pub mod Tracing
-pub mod Climbing
-pub mod Writing

@@ -1,12 +1,12 @@
 // The deep verdict, yes or no: a node conflict, or an update point below a node that the read selects.
-use crate::ways::delete_way;
-use crate::ways::insert_way;
-use crate::ways::touching;
 use admission::deep_delete_check;
 use admission::deep_insert_check;
 use tables::limits::STEP_LIMIT;
 use tables::refusal::Checked;
 use tables::refusal::Refusal;
+use ways::delete_way;
+use ways::insert_way;
+use ways::touching;
 ghost use Prim.Native.Nat.{_+_, _*_, _-_};
 ghost use mathlib.Core.Path.{_≡_};
 ghost use mathlib.Core.Bool.{cond};
@@ -14,7 +14,8 @@ ghost use lib.ListN.{length};
 ghost use Rattle.tables.specs.Limits.{stepLimit};
 ghost use Rattle.conflict.specs.Conflict.{delete, insert};
 ghost use Rattle.verdict.specs.declared.deep.Deeply.the-variants.{No, Yes};
-ghost use Rattle.admission.specs.Admitted.{Bounded, Fitting};
+ghost use Rattle.tables.specs.declared.refusal.Checked.the-variants.{Fine};
+ghost use Rattle.admission.specs.Order.{deepDeleteCheck, deepInsertCheck};
 ghost use Rattle.verdict.specs.Promise.{DeepVerdict};
 ghost use Rattle.verdict.specs.Verdict.{deleteDeep, insertDeep};
 
@@ -47,7 +48,7 @@ fn yes_or_no(b: bool) -> Deeply
 
 // Whether a read and a delete conflict, or an update point can lie below a node that is read.
 fn delete_deep(r: &[u16], p: &[u16]) -> bool
-    requires { ⌜ Bounded (now r) (now p) ⌝ }
+    requires { ⌜ deepDeleteCheck (now r) (now p) ≡ Fine ⌝ }
     ensures { λ b. ⌜ b ≡ deleteDeep (now (r .entry)) (now (p .entry)) ⌝ }
 {
     let mut out = scratch();
@@ -59,8 +60,7 @@ fn delete_deep(r: &[u16], p: &[u16]) -> bool
 
 // The same for an insert of the tree x.
 fn insert_deep(r: &[u16], p: &[u16], x: &[u16]) -> bool
-    requires { ⌜ Bounded (now r) (now p) ⌝ }
-    requires { ⌜ Fitting (now r) (now x) ⌝ }
+    requires { ⌜ deepInsertCheck (now r) (now p) (now x) ≡ Fine ⌝ }
     ensures { λ b. ⌜ b ≡ insertDeep (now (r .entry)) (now (p .entry)) (now (x .entry)) ⌝ }
 {
     let mut out = scratch();

@@ -1,9 +1,3 @@
-// Verdicts: whether a read and an update conflict, and a smallest witness.
+// The verdict: whether a read and an update conflict, with a smallest witness; and the deep verdict.
 pub mod deep;
-mod entering;
-mod fill;
-mod labels;
-mod moves;
 pub mod node;
-mod ways;
-mod witness;

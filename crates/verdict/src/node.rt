@@ -1,10 +1,10 @@
 // The node verdict: whether a read and an update conflict, with a smallest witness.
-use crate::ways::delete_way;
-use crate::ways::insert_way;
 use admission::delete_check;
 use admission::insert_check;
 use tables::refusal::Checked;
 use tables::refusal::Refusal;
+use ways::delete_way;
+use ways::insert_way;
 ghost use mathlib.Core.Path.{_≡_};
 ghost use Rattle.conflict.specs.Conflict.{delete, insert};
 ghost use Rattle.verdict.specs.Promise.{NodeVerdict};

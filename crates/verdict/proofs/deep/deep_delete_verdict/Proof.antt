@@ -1,6 +1,5 @@
 -- The check, and where it is fine the answer.
 use mathlib.Core.Path.{sym, _∙_}
-use Rattle.admission.proofs.Accepting.{delete-bounded}
 use Rattle.verdict.proofs.Judging.{deeply-on, deeply-off}
 use Rattle.verdict.proofs.Promise.{deep-delete-promise}
 use native.Mathlib.Omega.{arith}
@@ -14,7 +13,7 @@ deep-delete-verdict-spec =
     (tie.spec
     (λ c κs. search needs)
     (λ c. search needs)
-    (λ c κs. delete-bounded _ _ (sym (c .before .before .deep-delete-check .ensures) ∙ c .enum-told .given .1))
+    (λ c κs. sym (c .before .before .deep-delete-check .ensures) ∙ c .enum-told .given .1)
     (λ c κs. search needs)
     (λ c. search needs)
     (λ c.

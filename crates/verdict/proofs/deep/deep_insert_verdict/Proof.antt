@@ -1,6 +1,5 @@
 -- The check, and where it is fine the answer.
 use mathlib.Core.Path.{sym, _∙_}
-use Rattle.admission.proofs.Accepting.{insert-bounded, insert-fitting}
 use Rattle.verdict.proofs.Judging.{deeply-on, deeply-off}
 use Rattle.verdict.proofs.Promise.{deep-insert-promise}
 use native.Mathlib.Omega.{arith}
@@ -14,7 +13,7 @@ deep-insert-verdict-spec =
     (tie.spec
     (λ c κs. search needs)
     (λ c. search needs)
-    (λ c κs. let fine = sym (c .before .before .deep-insert-check .ensures) ∙ c .enum-told .given .1 in (insert-bounded _ _ _ fine, insert-fitting _ _ _ fine))
+    (λ c κs. sym (c .before .before .deep-insert-check .ensures) ∙ c .enum-told .given .1)
     (λ c κs. search needs)
     (λ c. search needs)
     (λ c.

@@ -1,4 +1,6 @@
 -- A node conflict, or an update point below.
+use Rattle.admission.proofs.Accepting.{delete-patterns, delete-longest}
+use Rattle.ways.proofs.Allowed.{granted, granted-test}
 use Rattle.verdict.proofs.Judging.{conflict-deep, clear-deep}
 use Rattle.verdict.specs.Verdict.{deleteDeep}
 use borrow.Author.Needs.{needs}
@@ -13,6 +15,8 @@ delete-deep-spec =
     (λ c κs. search needs)
     (λ c. search needs)
     (λ c κs. search needs)
-    (λ c. conflict-deep _ _ _ _ (c .before .before .delete-way .ensures) (c .if1 .taken))
+    (λ c. conflict-deep _ _ _ _ (granted (delete-longest _ _ (c .before .before .before .before .scratch .ensures) (c .before .before .before .before .before .before .before .pre)) (c .before .before .delete-way .ensures)) (c .if1 .taken))
     (λ c κs. search needs)
-    (λ c. clear-deep _ _ _ _ (c .before .before .before .delete-way .ensures) (c .before .if1 .left) (c .touching .ensures)))
+    (λ c.
+    let fine = c .before .before .before .before .before .before .before .before .pre in
+    clear-deep _ _ _ _ (granted (delete-longest _ _ (c .before .before .before .before .before .scratch .ensures) fine) (c .before .before .before .delete-way .ensures)) (c .before .if1 .left) (granted-test (delete-patterns _ _ fine) (c .touching .ensures))))

@@ -1,5 +1,6 @@
 -- A node conflict, or an update point below.
-use Rattle.admission.proofs.Accepting.{bounded-room}
+use Rattle.admission.proofs.Accepting.{insert-patterns, insert-longest}
+use Rattle.ways.proofs.Allowed.{granted, granted-test}
 use Rattle.verdict.proofs.Judging.{conflict-deep, clear-deep}
 use Rattle.verdict.specs.Verdict.{insertDeep}
 use borrow.Author.Needs.{needs}
@@ -13,9 +14,9 @@ insert-deep-spec =
     (tie.spec
     (λ c κs. search needs)
     (λ c. search needs)
-    (λ c κs.
-    let here = c .before .before .before .before .before .pre in
-    (here .0, (here .1, bounded-room _ _ (here .0) (c .before .scratch .ensures))))
-    (λ c. conflict-deep _ _ _ _ (c .before .before .insert-way .ensures) (c .if1 .taken))
     (λ c κs. search needs)
-    (λ c. clear-deep _ _ _ _ (c .before .before .before .insert-way .ensures) (c .before .if1 .left) (c .touching .ensures)))
+    (λ c. conflict-deep _ _ _ _ (granted (insert-longest _ _ (c .before .before .before .before .scratch .ensures) _ (c .before .before .before .before .before .before .before .before .pre)) (c .before .before .insert-way .ensures)) (c .if1 .taken))
+    (λ c κs. search needs)
+    (λ c.
+    let fine = c .before .before .before .before .before .before .before .before .before .pre in
+    clear-deep _ _ _ _ (granted (insert-longest _ _ (c .before .before .before .before .before .scratch .ensures) _ fine) (c .before .before .before .insert-way .ensures)) (c .before .if1 .left) (granted-test (insert-patterns _ _ _ fine) (c .touching .ensures))))

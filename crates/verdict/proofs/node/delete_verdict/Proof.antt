@@ -1,6 +1,6 @@
 -- The check, and where it is fine the way.
 use mathlib.Core.Path.{sym, _∙_}
-use Rattle.admission.proofs.Accepting.{delete-bounded, delete-deep, delete-room}
+use Rattle.ways.proofs.Allowed.{granted}
 use Rattle.verdict.proofs.Judging.{judged-on, judged-off}
 use Rattle.verdict.proofs.Promise.{delete-promise}
 use native.Mathlib.Omega.{arith}
@@ -14,13 +14,13 @@ delete-verdict-spec =
     (tie.spec
     (λ c κs. search needs)
     (λ c. search needs)
-    (λ c κs. let fine = sym (c .before .before .before .delete-check .ensures) ∙ c .before .enum-told .given .1 in (delete-bounded _ _ (delete-deep _ _ _ fine), delete-room _ _ _ fine))
+    (λ c κs. search needs)
     (λ c κs. search needs)
     (λ c. search needs)
     (λ c. search needs)
     (λ c.
     delete-promise _ _ (λ i. omega (arith, c .before .before .before .before .before .before .before .before .before .before .shared-slice-known .given i)) (λ i. omega (arith, c .before .before .before .before .before .before .before .before .before .shared-slice-known2 .given i))
-    (judged-on _ (c .before .before .before .before .before .before .before .delete-check .ensures) (c .before .before .before .before .before .enum-told .given .1) (c .before .before .before .delete-way .ensures) (c .found .ensures)))
+    (judged-on _ (c .before .before .before .before .before .before .before .delete-check .ensures) (c .before .before .before .before .before .enum-told .given .1) (granted (sym (c .before .before .before .before .before .before .before .delete-check .ensures) ∙ c .before .before .before .before .before .enum-told .given .1) (c .before .before .before .delete-way .ensures)) (c .found .ensures)))
     (λ c.
     delete-promise _ _ (λ i. omega (arith, c .before .before .before .before .before .before .shared-slice-known .given i)) (λ i. omega (arith, c .before .before .before .before .before .shared-slice-known2 .given i))
     (judged-off _ (c .before .before .before .delete-check .ensures) _ _ (c .before .why .given .1))))

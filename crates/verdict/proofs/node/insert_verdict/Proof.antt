@@ -1,6 +1,6 @@
 -- The check, and where it is fine the way.
 use mathlib.Core.Path.{sym, _∙_}
-use Rattle.admission.proofs.Accepting.{insert-bounded, insert-fitting, insert-deep, insert-room}
+use Rattle.ways.proofs.Allowed.{granted}
 use Rattle.verdict.proofs.Judging.{judged-on, judged-off}
 use Rattle.verdict.proofs.Promise.{insert-promise}
 use native.Mathlib.Omega.{arith}
@@ -14,13 +14,13 @@ insert-verdict-spec =
     (tie.spec
     (λ c κs. search needs)
     (λ c. search needs)
-    (λ c κs. let fine = sym (c .before .before .before .insert-check .ensures) ∙ c .before .enum-told .given .1 in let deep = insert-deep _ _ _ _ fine in (insert-bounded _ _ _ deep, (insert-fitting _ _ _ deep, insert-room _ _ _ _ fine)))
+    (λ c κs. search needs)
     (λ c κs. search needs)
     (λ c. search needs)
     (λ c. search needs)
     (λ c.
     insert-promise _ _ _ (λ i. omega (arith, c .before .before .before .before .before .before .before .before .before .before .before .shared-slice-known .given i)) (λ i. omega (arith, c .before .before .before .before .before .before .before .before .before .before .shared-slice-known2 .given i)) (λ i. omega (arith, c .before .before .before .before .before .before .before .before .before .shared-slice-known3 .given i))
-    (judged-on _ (c .before .before .before .before .before .before .before .insert-check .ensures) (c .before .before .before .before .before .enum-told .given .1) (c .before .before .before .insert-way .ensures) (c .found .ensures)))
+    (judged-on _ (c .before .before .before .before .before .before .before .insert-check .ensures) (c .before .before .before .before .before .enum-told .given .1) (granted (sym (c .before .before .before .before .before .before .before .insert-check .ensures) ∙ c .before .before .before .before .before .enum-told .given .1) (c .before .before .before .insert-way .ensures)) (c .found .ensures)))
     (λ c.
     insert-promise _ _ _ (λ i. omega (arith, c .before .before .before .before .before .before .before .shared-slice-known .given i)) (λ i. omega (arith, c .before .before .before .before .before .before .shared-slice-known2 .given i)) (λ i. omega (arith, c .before .before .before .before .before .shared-slice-known3 .given i))
     (judged-off _ (c .before .before .before .insert-check .ensures) _ _ (c .before .why .given .1))))
