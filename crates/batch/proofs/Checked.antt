@@ -6,7 +6,7 @@ use native.Mathlib.Omega.{arith}
 use lib.Dec.{leb}
 use lib.ListN.{length}
 use borrow.Author.Tests.{leb-true}
-use Rattle.tables.specs.Checks.{_then_, outputCheck}
+use Rattle.tables.specs.Checks.{outputCheck}
 use Rattle.tables.specs.declared.refusal.Refusal.{Refusal}
 use Rattle.tables.specs.declared.refusal.Checked.the-variants as checked
 use Rattle.tables.proofs.Accepted.{held, then-first, then-second}

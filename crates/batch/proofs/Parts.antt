@@ -12,7 +12,8 @@ use Rattle.tables.specs.Words.{steps}
 use Rattle.tables.specs.Checks.{patternCheck}
 use Rattle.tables.specs.declared.refusal.Checked.the-variants.{Fine}
 use Rattle.conflict.specs.Conflict.{delete, insert, Conflict}
-use Rattle.frames.specs.Frames.{part, kind, count, treeAt, endOf}
+use Rattle.parts.specs.Parts.{part, count}
+use Rattle.frames.specs.Frames.{kind, treeAt, endOf}
 use Rattle.admission.specs.Order.{patternsCheck, deepDeleteCheck, deepInsertCheck}
 use Rattle.batches.specs.Batches.{patternOf, treeOf, updateOf}
 use Rattle.batch.specs.Walking.{Standing, Updating}

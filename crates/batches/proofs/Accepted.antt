@@ -19,8 +19,9 @@ use Rattle.tables.proofs.Accepted.{held, then-first, then-second}
 use Rattle.tables.proofs.Soundness.{Words, accepted-pattern, accepted-tree}
 use Rattle.conflict.specs.Conflict.{delete, insert}
 use Rattle.order.specs.Running.{Fit, FitFrame}
-use Rattle.frames.specs.Frames.{part, kind, count, treeAt, placed, countCheck, kindRight, stepsCheck, nodesCheck, restCheck, frameCheck}
-use Rattle.frames.proofs.Branches.{count-room}
+use Rattle.parts.specs.Parts.{part, count, placed, countCheck, stepsCheck, nodesCheck}
+use Rattle.frames.specs.Frames.{kind, treeAt, kindRight, restCheck, frameCheck}
+use Rattle.parts.proofs.Branches.{count-room}
 use Rattle.batches.specs.Batches.{patternOf, treeOf, updateOf, meaning}
 
 -- a part that is refused nowhere in its frame is fine

@@ -12,7 +12,8 @@ use Rattle.tables.specs.Checks.{_then_, test, refuse}
 use Rattle.tables.specs.declared.refusal.Checked.the-variants.{Fine}
 use Rattle.tables.proofs.Accepted.{then-first, then-second}
 use Rattle.tables.proofs.Soundness.{Words}
-use Rattle.frames.specs.Frames.{kind, count, treeAt, endOf, frameCheck}
+use Rattle.parts.specs.Parts.{count}
+use Rattle.frames.specs.Frames.{kind, treeAt, endOf, frameCheck}
 use Rattle.conflict.specs.Conflict.{Update}
 use Rattle.order.specs.Model.{Frame, At, here, there, Fits}
 use Rattle.order.specs.Running.{FitFrame}

@@ -5,15 +5,13 @@ use mathlib.Core.List.{List}
 use native.Mathlib.Nat.{zero-add, add-zero}
 use native.Mathlib.Numerals.{add-one}
 use native.Mathlib.Omega.{arith}
-use lib.Dec.{leb}
 use lib.ListN.{length}
-use borrow.Author.Tests.{le-leb, lt-leb, leb-true}
+use borrow.Author.Tests.{le-leb, lt-leb}
 use Rattle.tables.specs.Limits.{batchLimit}
 use Rattle.tables.specs.Checks.{_then_, outputCheck}
 use Rattle.tables.specs.declared.refusal.Refusal.{Refusal}
 use Rattle.tables.specs.declared.refusal.Checked.{Checked}
 use Rattle.tables.specs.declared.refusal.Checked.the-variants as checked
-use Rattle.tables.proofs.Accepted.{held, then-first, then-second}
 use Rattle.frames.specs.Frames.{endOf, frameCheck, frameOf, answered, frameAt}
 use Rattle.frames.specs.declared.Frame.{Frame}
 use Rattle.frames.specs.declared.Framed.{Framed}

@@ -10,7 +10,8 @@ use Rattle.tables.specs.declared.refusal.Checked.{Checked}
 use Rattle.tables.specs.declared.refusal.Checked.the-variants as checked
 use Rattle.conflict.specs.Conflict.{Update, delete, insert}
 use Rattle.order.specs.Model.{Frame, read, update}
-use Rattle.frames.specs.Frames.{part, kind, count, treeAt, endOf, frameCheck}
+use Rattle.parts.specs.Parts.{part, count}
+use Rattle.frames.specs.Frames.{kind, treeAt, endOf, frameCheck}
 use Rattle.batches.specs.declared.Counted.{Counted}
 use Rattle.batches.specs.declared.Counted.the-variants.{Refused, Frames}
 

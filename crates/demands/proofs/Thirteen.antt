@@ -10,7 +10,8 @@ use Rattle.tables.specs.Documents.{Doc}
 use Rattle.tables.specs.declared.refusal.Checked.{Checked}
 use Rattle.tables.specs.declared.refusal.Checked.the-variants.{Fine, Refused}
 use Rattle.tables.specs.Checks.{refuse, _then_, test, each, sizeCheck, axisCheck, patternCheck, nodeCheck, treeCheck, usedCheck, markCheck, documentCheck, outputCheck}
-use Rattle.frames.specs.Frames.{placed, countCheck, stepsCheck, nodesCheck, restCheck, frameCheck, endOf}
+use Rattle.parts.specs.Parts.{placed, countCheck, stepsCheck, nodesCheck}
+use Rattle.frames.specs.Frames.{restCheck, frameCheck, endOf}
 use Rattle.plain.specs.Plain.{plainCheck}
 use Rattle.readable.specs.Readable.{readCheck}
 use Rattle.updating.specs.Updating as updating

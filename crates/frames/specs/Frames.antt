@@ -2,54 +2,28 @@
 use Prim.Native.Nat.{ℕ, _+_, _*_}
 use mathlib.Core.Bool.{Bool, _||_, cond, not}
 use mathlib.Core.List.{List}
-use lib.Dec.{eqb, ltb, leb}
-use lib.ListN.{length, getD, take, drop}
-use Rattle.tables.specs.Limits.{stepLimit, treeLimit, frameLimit}
-use Rattle.tables.specs.Checks.{_then_, test, refuse, patternCheck, treeCheck}
+use lib.Dec.{eqb, ltb}
+use lib.ListN.{getD}
+use Rattle.tables.specs.Limits.{frameLimit}
+use Rattle.tables.specs.Checks.{_then_, test, refuse}
 use Rattle.tables.specs.declared.refusal.Checked.{Checked}
 use Rattle.tables.specs.declared.refusal.Checked.the-variants.{Fine, Refused}
+use Rattle.parts.specs.Parts.{count, stepsCheck, nodesCheck}
 use Rattle.frames.specs.declared.Frame.{Frame}
 use Rattle.frames.specs.declared.Framed.{Framed}
 use Rattle.frames.specs.declared.Framed.the-variants as framed
 
--- so many words of the batch, from here on
-abbrev pub part : List ℕ → ℕ → ℕ → List ℕ
-part b from words = take words (drop from b)
-
--- a frame's kind, and the count that stands at a place
+-- a frame's kind
 abbrev pub kind : List ℕ → ℕ → ℕ
 kind b at = getD b at 0
-
-abbrev pub count : List ℕ → ℕ → ℕ
-count b at = getD b at 0
 
 -- where the node count of a frame stands, whose step count is n
 abbrev pub treeAt : ℕ → ℕ → ℕ
 treeAt at n = at + 2 + 2 * n
 
--- in a batch the table is 6 and the place is the frame
-abbrev pub placed : ℕ → Checked → Checked
-placed n Fine = Fine
-placed n (Refused r) = refuse (r .number) 6 n
-
--- a count, and behind it two words each: absent 9, 1, 2, the rest absent 9
-unfoldable pub countCheck : List ℕ → ℕ → ℕ → ℕ → Checked
-countCheck b n at limit =
-    test (ltb at (length b)) (refuse 9 6 n)
-    then test (ltb 0 (count b at)) (refuse 1 6 n)
-    then test (leb (count b at) limit) (refuse 2 6 n)
-    then test (leb (at + 1 + 2 * count b at) (length b)) (refuse 9 6 n)
-
+-- a kind is 1, 2 or 3
 unfoldable pub kindRight : ℕ → Bool
 kindRight k = eqb k 1 || (eqb k 2 || eqb k 3)
-
--- the steps: their count, then 3
-unfoldable pub stepsCheck : List ℕ → ℕ → ℕ → Checked
-stepsCheck b n at = countCheck b n at stepLimit then placed n (patternCheck (part b (at + 1) (2 * count b at)) stepLimit 6)
-
--- the nodes of an insert: their count, then 4, 5
-unfoldable pub nodesCheck : List ℕ → ℕ → ℕ → Checked
-nodesCheck b n at = countCheck b n at treeLimit then placed n (treeCheck (part b (at + 1) (2 * count b at)) treeLimit 6)
 
 -- what stands behind the steps: a delete has more than one step, an insert has its nodes
 unfoldable pub restCheck : List ℕ → ℕ → ℕ → ℕ → Checked

@@ -1,19 +1,17 @@
 // One frame of a batch, read where it stands: the place of a refusal is decided here.
-use patterns::pattern;
+use parts::nodes_checked;
+use parts::steps_checked;
 use tables::limits::FRAME_LIMIT;
-use tables::limits::STEP_LIMIT;
-use tables::limits::TREE_LIMIT;
 use tables::refusal::Checked;
 use tables::refusal::Refusal;
 use tables::refusal::refused;
 use tables::words::word;
-use trees::tree;
 ghost use mathlib.Core.Path.{_≡_};
-ghost use Prim.Native.Nat.{_+_, _-_, _<_, _≤_};
+ghost use Prim.Native.Nat.{_+_, _<_};
 ghost use lib.ListN.{length};
-ghost use Rattle.tables.specs.Limits.{stepLimit, treeLimit};
-ghost use Rattle.tables.specs.Checks.{_then_, patternCheck, treeCheck};
-ghost use Rattle.frames.specs.Frames.{part, placed, countCheck, kindRight, stepsCheck, nodesCheck, restCheck, frameCheck, frameOf, frameAt};
+ghost use Rattle.tables.specs.Checks.{_then_};
+ghost use Rattle.parts.specs.Parts.{stepsCheck};
+ghost use Rattle.frames.specs.Frames.{kindRight, restCheck, frameCheck, frameOf, frameAt};
 
 // A frame: its kind (1 read, 2 insert, 3 delete), where its steps begin, how many steps and nodes it has, where it ends.
 pub struct Frame {
@@ -28,79 +26,6 @@ pub struct Frame {
 pub enum Framed {
     Refused(Refusal),
     Found(Frame),
-}
-
-// A count at a place, and two words for each behind it.
-fn counted(b: &[u16], n: usize, at: usize, limit: usize) -> Checked
-    ensures { λ r. ⌜ r ≡ countCheck (now (b .entry)) n at limit ⌝ }
-{
-    let words = b.len();
-    if words <= at {
-        return refused(9, 6, n);
-    }
-    let count = word(b, at);
-    if count == 0 {
-        return refused(1, 6, n);
-    }
-    if limit < count {
-        return refused(2, 6, n);
-    }
-    if (words - at - 1) / 2 < count {
-        return refused(9, 6, n);
-    }
-    Checked::Fine
-}
-
-// A refusal of a part, as one of frame n.
-fn in_frame(n: usize, c: Checked) -> Checked
-    ensures { λ r. ⌜ r ≡ placed n c ⌝ }
-{
-    match c {
-        Checked::Fine => Checked::Fine,
-        Checked::Refused(r) => refused(r.number, 6, n),
-    }
-}
-
-// The steps of frame n, as a part of the batch.
-fn steps_part(b: &[u16], n: usize, from: usize, to: usize) -> Checked
-    requires { ⌜ (from ≤ to) × (to ≤ length (now b)) ⌝ }
-    ensures { λ r. ⌜ r ≡ placed n (patternCheck (part (now (b .entry)) from (to - from)) stepLimit 6) ⌝ }
-{
-    in_frame(n, pattern(&b[from..to], STEP_LIMIT, 6))
-}
-
-// The nodes of frame n, as a part of the batch.
-fn nodes_part(b: &[u16], n: usize, from: usize, to: usize) -> Checked
-    requires { ⌜ (from ≤ to) × (to ≤ length (now b)) ⌝ }
-    ensures { λ r. ⌜ r ≡ placed n (treeCheck (part (now (b .entry)) from (to - from)) treeLimit 6) ⌝ }
-{
-    in_frame(n, tree(&b[from..to], TREE_LIMIT, 6))
-}
-
-// The step count at a place and the steps behind it.
-fn steps_checked(b: &[u16], n: usize, at: usize) -> Checked
-    ensures { λ r. ⌜ r ≡ stepsCheck (now (b .entry)) n at ⌝ }
-{
-    match counted(b, n, at, STEP_LIMIT) {
-        Checked::Fine => {
-            let count = word(b, at);
-            steps_part(b, n, at + 1, at + 1 + 2 * count)
-        }
-        Checked::Refused(r) => Checked::Refused(r),
-    }
-}
-
-// The node count at a place and the nodes behind it.
-fn nodes_checked(b: &[u16], n: usize, at: usize) -> Checked
-    ensures { λ r. ⌜ r ≡ nodesCheck (now (b .entry)) n at ⌝ }
-{
-    match counted(b, n, at, TREE_LIMIT) {
-        Checked::Fine => {
-            let count = word(b, at);
-            nodes_part(b, n, at + 1, at + 1 + 2 * count)
-        }
-        Checked::Refused(r) => Checked::Refused(r),
-    }
 }
 
 // What stands behind the steps of a frame of kind k.

@@ -1,5 +1,5 @@
 -- From what the checks and the copies give to the promise of insert.
-use Prim.Native.Nat.{ℕ, _+_, _*_, _/_, min, _≤_}
+use Prim.Native.Nat.{ℕ, _+_, _*_, _/_, min}
 use mathlib.Core.Path.{_≡_, sym, _∙_}
 use mathlib.Core.List.{List}
 use native.Mathlib.Omega.{arith}

@@ -14,7 +14,8 @@ use Rattle.tables.specs.Checks.{_then_, test, refuse}
 use Rattle.tables.specs.declared.refusal.Refusal.{Refusal}
 use Rattle.tables.specs.declared.refusal.Checked.the-variants.{Fine, Refused}
 use Rattle.tables.proofs.Accepted.{held, then-first, then-second}
-use Rattle.frames.specs.Frames.{part, kind, endOf, frameCheck}
+use Rattle.parts.specs.Parts.{part}
+use Rattle.frames.specs.Frames.{kind, endOf, frameCheck}
 use Rattle.batches.proofs.Accepted.{frame-below}
 use Rattle.batches.proofs.Frames.{end-behind}
 use Rattle.lines.specs.Lines.{lineCheck, wordsOf}
@@ -23,12 +24,12 @@ use Rattle.printer.specs.Reading.{Roomy, TakenAs, RanAs}
 use Rattle.printer.specs.declared.Taken.{Taken}
 use Rattle.printer.specs.declared.Taken.the-variants as took
 use Rattle.printer.specs.declared.Ran.the-variants as ran
-use Rattle.printer.proofs.Checks.{behindLine}
+use Rattle.whole.specs.Whole.{wholeCheck}
 use Rattle.printer.proofs.Cutting.{end-least, end-most}
 
 -- what a line that is taken says
 module _ (l : List ℕ) (n : ℕ) (b : List ℕ) (e : takeCheck l n b ≡ Fine) where
-  behind : behindLine (b ++ wordsOf l) n (length b) ≡ Fine
+  behind : wholeCheck (b ++ wordsOf l) n (length b) ≡ Fine
   unfolding takeCheck
   behind = then-second (lineCheck l (n + 1)) _ e
 

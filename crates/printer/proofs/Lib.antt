@@ -1,6 +1,5 @@
 -- Laws of the plan printer.
 pub mod Cutting
-pub mod Checks
 pub mod Texts
 pub mod Taking
 pub mod Going

@@ -14,8 +14,9 @@ use Rattle.tables.specs.Checks.{_then_, test, refuse, patternCheck, treeCheck}
 use Rattle.tables.specs.declared.refusal.Checked.{Checked}
 use Rattle.tables.specs.declared.refusal.Checked.the-variants.{Fine, Refused}
 use Rattle.tables.proofs.Accepted.{then-first, then-second}
-use Rattle.frames.specs.Frames.{part, kind, count, treeAt, placed, countCheck, kindRight, stepsCheck, nodesCheck, restCheck, frameCheck, endOf}
-use Rattle.frames.proofs.Branches.{count-here, count-some, count-within, count-room}
+use Rattle.parts.specs.Parts.{part, count, placed, countCheck, stepsCheck, nodesCheck}
+use Rattle.frames.specs.Frames.{kind, treeAt, kindRight, restCheck, frameCheck, endOf}
+use Rattle.parts.proofs.Branches.{count-here, count-some, count-within, count-room}
 use Rattle.batches.proofs.Accepted.{frame-kind, steps-room, tree-room}
 
 then-both : (a b : Checked) → a ≡ Fine → b ≡ Fine → (a then b) ≡ Fine

@@ -12,7 +12,8 @@ use Rattle.tables.specs.Checks.{_then_, test, refuse, each, sizeCheck, axisRigh
 use Rattle.tables.specs.declared.refusal.Refusal.{Refusal}
 use Rattle.tables.specs.declared.refusal.Checked.{Checked}
 use Rattle.tables.specs.declared.refusal.Checked.the-variants.{Fine, Refused}
-use Rattle.frames.specs.Frames.{part, kind, count, treeAt, placed, countCheck, kindRight, stepsCheck, nodesCheck, restCheck, frameCheck, endOf}
+use Rattle.parts.specs.Parts.{part, count, placed, countCheck, stepsCheck, nodesCheck}
+use Rattle.frames.specs.Frames.{kind, treeAt, kindRight, restCheck, frameCheck, endOf}
 use Rattle.lines.specs.Lines.{digitOf, characterCheck, lineCheck, wordsOf}
 use Rattle.printer.specs.Printer.{takeCheck}
 

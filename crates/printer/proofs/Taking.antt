@@ -25,7 +25,7 @@ use Rattle.printer.specs.Printer.{takeCheck}
 use Rattle.printer.specs.Reading.{Roomy, TakenAs}
 use Rattle.printer.specs.declared.Taken.{Taken}
 use Rattle.printer.specs.declared.Taken.the-variants as took
-use Rattle.printer.proofs.Checks.{behindLine}
+use Rattle.whole.specs.Whole.{wholeCheck}
 
 -- a check is fine, or is this refusal
 abbrev Only : Refusal → Checked → Type 0
@@ -127,7 +127,7 @@ module _ (l : List ℕ) (n used : ℕ) (batch : List ℕ) (roomy : Roomy used ba
     pub put-room : used + m ≤ length put
     put-room = rw put-long (omega (arith, words-few, roomy .within, roomy .room))
 
-    module _ {got : Checked} (f : got ≡ behindLine (take (used + m - 0) (drop 0 put)) n used) where
+    module _ {got : Checked} (f : got ≡ wholeCheck (take (used + m - 0) (drop 0 put)) n used) where
       checked-as : takeCheck l n (take used batch) ≡ got
       unfolding takeCheck
       checked-as =

@@ -12,7 +12,8 @@ use Rattle.tables.specs.declared.refusal.Checked.{Checked}
 use Rattle.tables.specs.declared.refusal.Checked.the-variants as checked
 use Rattle.conflict.specs.Conflict.{Update}
 use Rattle.order.specs.Model.{Frame, At}
-use Rattle.frames.specs.Frames.{part, kind, endOf, frameCheck}
+use Rattle.parts.specs.Parts.{part}
+use Rattle.frames.specs.Frames.{kind, endOf, frameCheck}
 use Rattle.batches.specs.Batches.{batchOf}
 use Rattle.batch.specs.Batch.{WordIs}
 use Rattle.lines.specs.Lines.{lineCheck, wordsOf, lineOf}

@@ -1,7 +1,5 @@
 // The plan printer: from lines to the plan of their frames, or to the first refusal.
 use batch::plan::plan;
-use frames::Framed;
-use frames::read_frame;
 use lines::Parsed;
 use lines::read_line;
 use lines::write_line;
@@ -11,16 +9,13 @@ use tables::limits::DIGIT_LIMIT;
 use tables::limits::FRAME_LIMIT;
 use tables::refusal::Checked;
 use tables::refusal::Refusal;
-use tables::refusal::refused;
 use tables::words::byte;
+use whole::frame_checked;
 ghost use Prim.Native.Nat.{_+_, _*_, _/_, _<_, _≤_};
 ghost use mathlib.Core.Path.{_≡_};
 ghost use mathlib.Core.List.{_++_};
-ghost use lib.Dec.{eqb, leb};
 ghost use lib.ListN.{length, drop, take};
 ghost use Rattle.tables.specs.Limits.{batchLimit, digitLimit, frameLimit, wordLimit};
-ghost use Rattle.tables.specs.Checks.{_then_, test, refuse};
-ghost use Rattle.frames.specs.Frames.{endOf, frameCheck};
 ghost use Rattle.printer.specs.Printer.{lineEnd, threeOf, planText, Answered, PrintedAs};
 ghost use Rattle.printer.specs.Reading.{Roomy, TakenAs, RanAs, Plannable, PlanPrinted};
 
@@ -67,24 +62,6 @@ fn line_end(s: &[u8], at: usize) -> usize
         k += 1;
     }
     k
-}
-
-// The words of all lines, the last one's from a place on: 10 for words, as a frame, words left over.
-fn frame_checked(b: &[u16], n: usize, at: usize) -> Checked
-    ensures { λ r. ⌜ r ≡ (test (leb (length (now (b .entry))) batchLimit) (refuse 10 6 0) then frameCheck (now (b .entry)) n at then test (eqb (endOf (now (b .entry)) at) (length (now (b .entry)))) (refuse 9 6 n)) ⌝ }
-{
-    if BATCH_LIMIT < b.len() {
-        return refused(10, 6, 0);
-    }
-    match read_frame(b, n, at) {
-        Framed::Refused(r) => Checked::Refused(r),
-        Framed::Found(f) => {
-            if f.next == b.len() {
-                return Checked::Fine;
-            }
-            refused(9, 6, n)
-        }
-    }
 }
 
 // A line behind n lines, its words behind those in use.

@@ -12,9 +12,10 @@ use Rattle.tables.specs.Checks.{_then_, test, refuse}
 use Rattle.tables.specs.declared.refusal.Checked.{Checked}
 use Rattle.tables.specs.declared.refusal.Checked.the-variants.{Fine, Refused}
 use Rattle.tables.proofs.Accepted.{held, then-first, then-second}
-use Rattle.frames.specs.Frames.{kind, count, treeAt, countCheck, kindRight, stepsCheck, nodesCheck, restCheck, frameCheck, endOf, frameOf, answered, frameAt}
+use Rattle.parts.specs.Parts.{count, countCheck, stepsCheck, nodesCheck}
+use Rattle.frames.specs.Frames.{kind, treeAt, kindRight, restCheck, frameCheck, endOf, frameOf, answered, frameAt}
 use Rattle.frames.specs.declared.Frame.{Frame}
-use Rattle.frames.proofs.Branches.{count-room}
+use Rattle.parts.proofs.Branches.{count-room}
 use Rattle.walker.specs.Walker.{answerOf, stepAt}
 use Rattle.walker.specs.declared.Answer.{Answer}
 use Rattle.walker.specs.declared.Answer.the-variants as answer

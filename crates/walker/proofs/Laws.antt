@@ -6,7 +6,8 @@ use lib.ListN.{length}
 use borrow.Author.Tests.{lt-leb}
 use Rattle.tables.specs.Limits.{batchLimit}
 use Rattle.tables.specs.declared.refusal.Refusal.{Refusal}
-use Rattle.frames.specs.Frames.{part, endOf, frameOf}
+use Rattle.parts.specs.Parts.{part}
+use Rattle.frames.specs.Frames.{endOf, frameOf}
 use Rattle.frames.specs.declared.Frame.{Frame}
 use Rattle.walker.specs.Walker.{stepAt, placeAfter, numberAfter, partAt}
 use Rattle.walker.specs.declared.Answer.the-variants as answer

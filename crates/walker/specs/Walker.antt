@@ -5,7 +5,8 @@ use mathlib.Core.List.{List}
 use lib.Dec.{ltb, leb}
 use lib.ListN.{length}
 use Rattle.tables.specs.Limits.{batchLimit}
-use Rattle.frames.specs.Frames.{part, frameAt}
+use Rattle.parts.specs.Parts.{part}
+use Rattle.frames.specs.Frames.{frameAt}
 use Rattle.frames.specs.declared.Framed.{Framed}
 use Rattle.frames.specs.declared.Framed.the-variants as framed
 use Rattle.walker.specs.declared.Answer.{Answer}

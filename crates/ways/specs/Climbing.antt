@@ -6,7 +6,7 @@ use mathlib.Core.List.{List}
 use lib.Dec.{eqb}
 use lib.ListN.{length, getD}
 use Rattle.tables.specs.Limits.{stepLimit, treeLimit}
-use Rattle.tables.specs.Words.{steps, nodes, parent, tag}
+use Rattle.tables.specs.Words.{nodes, parent, tag}
 use Rattle.selection.specs.Ways.{takes, stays, last}
 use Rattle.ways.specs.Cells.{place}
 

@@ -4,7 +4,7 @@ use mathlib.Core.Path.{sym, _∙_}
 use lib.ListN.{length}
 use native.Mathlib.Omega.{arith}
 use borrow.Author.Needs.{needs}
-use Rattle.frames.specs.Frames.{count}
+use Rattle.parts.specs.Parts.{count}
 use Rattle.batches.proofs.Accepted.{tree-room}
 use Rattle.batches.proofs.Frames.{end-other, end-insert}
 use Rattle.batch.proofs.conflicts.frame_end.Statement.{statement}

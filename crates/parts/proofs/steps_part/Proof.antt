@@ -1,9 +1,9 @@
 -- The check is made on the part itself.
 use mathlib.Core.Path.{ap, _∙_}
 use borrow.Author.Needs.{needs}
-use Rattle.frames.specs.Frames.{placed}
-use Rattle.frames.proofs.steps_part.Statement.{statement}
-use Rattle.frames.proofs.steps_part.Tie as tie
+use Rattle.parts.specs.Parts.{placed}
+use Rattle.parts.proofs.steps_part.Statement.{statement}
+use Rattle.parts.proofs.steps_part.Tie as tie
 
 pub steps-part-spec : {M : Type 1} → statement M
 steps-part-spec =

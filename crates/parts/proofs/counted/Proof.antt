@@ -1,8 +1,8 @@
 -- The branches of the code are those of the definition.
 use borrow.Author.Needs.{needs}
-use Rattle.frames.proofs.Branches.{count-absent, count-none, count-over, count-short, count-fine}
-use Rattle.frames.proofs.counted.Statement.{statement}
-use Rattle.frames.proofs.counted.Tie as tie
+use Rattle.parts.proofs.Branches.{count-absent, count-none, count-over, count-short, count-fine}
+use Rattle.parts.proofs.counted.Statement.{statement}
+use Rattle.parts.proofs.counted.Tie as tie
 
 pub counted-spec : {M : Type 1} → statement M
 counted-spec =

@@ -7,10 +7,10 @@ use borrow.Author.Needs.{needs}
 use Rattle.tables.specs.Limits.{stepLimit}
 use Rattle.tables.specs.Checks.{patternCheck}
 use Rattle.tables.proofs.Branches.{then-off}
-use Rattle.frames.specs.Frames.{count, stepsCheck}
-use Rattle.frames.proofs.Branches.{count-room, part-on}
-use Rattle.frames.proofs.steps_checked.Statement.{statement}
-use Rattle.frames.proofs.steps_checked.Tie as tie
+use Rattle.parts.specs.Parts.{count, stepsCheck}
+use Rattle.parts.proofs.Branches.{count-room, part-on}
+use Rattle.parts.proofs.steps_checked.Statement.{statement}
+use Rattle.parts.proofs.steps_checked.Tie as tie
 
 -- the part lies within the batch
 room : (c : tie.After-word) → c .before .before .before .before .before .args .at + 1 + 2 * c .word .result ≤ length (c .before .before .before .before .before .args .b .now)

@@ -1,8 +1,8 @@
 -- The branches of the code are those of the definition.
 use borrow.Author.Needs.{needs}
-use Rattle.printer.proofs.Checks.{behind-over, behind-why, behind-fine, behind-left}
-use Rattle.printer.proofs.frame_checked.Statement.{statement}
-use Rattle.printer.proofs.frame_checked.Tie as tie
+use Rattle.whole.proofs.Branches.{behind-over, behind-why, behind-fine, behind-left}
+use Rattle.whole.proofs.frame_checked.Statement.{statement}
+use Rattle.whole.proofs.frame_checked.Tie as tie
 
 pub frame-checked-spec : {M : Type 1} → statement M
 frame-checked-spec =

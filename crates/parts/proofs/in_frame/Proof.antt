@@ -1,8 +1,8 @@
 -- Fine stays fine, a refusal gets table 6 and its frame.
 use borrow.Author.Needs.{needs}
-use Rattle.frames.proofs.Branches.{place-fine, place-refused}
-use Rattle.frames.proofs.in_frame.Statement.{statement}
-use Rattle.frames.proofs.in_frame.Tie as tie
+use Rattle.parts.proofs.Branches.{place-fine, place-refused}
+use Rattle.parts.proofs.in_frame.Statement.{statement}
+use Rattle.parts.proofs.in_frame.Tie as tie
 
 pub in-frame-spec : {M : Type 1} → statement M
 in-frame-spec =

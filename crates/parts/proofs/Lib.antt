@@ -1,0 +1,2 @@
+-- Laws of the counted parts of a frame.
+pub mod Branches

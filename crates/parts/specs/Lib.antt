@@ -1,0 +1,2 @@
+-- What a reader must believe of the counted parts of a frame.
+pub mod Parts

@@ -1,0 +1,2 @@
+-- What a reader must believe of a whole frame.
+pub mod Whole
