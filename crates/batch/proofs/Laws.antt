@@ -26,7 +26,7 @@ use Rattle.batches.proofs.Frames.{accepted-fits}
 use Rattle.batch.proofs.Slots.{slot-one, slot-exactly}
 
 -- a frame has one word
-word-one : (b : List (Frame (List ℕ) Update)) (k : ℕ) (f : Frame (List ℕ) Update) {v w : ℕ} → WordIs b k f v → WordIs b k f w → v ≡ w
+pub word-one : (b : List (Frame (List ℕ) Update)) (k : ℕ) (f : Frame (List ℕ) Update) {v w : ℕ} → WordIs b k f v → WordIs b k f w → v ≡ w
 word-one b k (read r) s t = slot-one s t
 word-one b k (update u) s t = s ∙ sym t
 

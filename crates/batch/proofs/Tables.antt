@@ -15,8 +15,9 @@ use Rattle.tables.proofs.Accepted.{held, then-first, then-second, each-fine, ea
 test-other : (b : Bool) (r w : Refusal) → test b (Refused r) ≡ Fine → test b (Refused w) ≡ Fine
 test-other b r w e = rw (held b r e)
 
-then-both : {a b : Checked} → a ≡ Fine → b ≡ Fine → (a then b) ≡ Fine
-then-both p q = rw (p, q)
+-- where both checks are fine, so is one after the other
+pub then-both : (a b : Checked) → a ≡ Fine → b ≡ Fine → (a then b) ≡ Fine
+then-both a b p q = rw (p, q)
 
 module _ (s t : ℕ) where
   size-other : (n limit : ℕ) → sizeCheck n limit s ≡ Fine → sizeCheck n limit t ≡ Fine
@@ -24,7 +25,7 @@ module _ (s t : ℕ) where
   size-other n limit e =
       let first = test (ltb 0 n && eqb (n % 2) 0) (refuse 1 s 0) in
       let second = test (leb (n / 2) limit) (refuse 2 s 0) in
-      then-both (test-other (ltb 0 n && eqb (n % 2) 0) _ _ (then-first first second e)) (test-other (leb (n / 2) limit) _ _ (then-second first second e))
+      then-both _ _ (test-other (ltb 0 n && eqb (n % 2) 0) _ _ (then-first first second e)) (test-other (leb (n / 2) limit) _ _ (then-second first second e))
 
   axis-other : (p : List ℕ) (i : ℕ) → axisCheck p s i ≡ Fine → axisCheck p t i ≡ Fine
   unfolding axisCheck
@@ -35,7 +36,7 @@ module _ (s t : ℕ) where
   node-other x v e =
       let first = test (parentRight x v) (refuse 4 s v) in
       let second = test (ltb 0 (tag x v)) (refuse 5 s v) in
-      then-both (test-other (parentRight x v) _ _ (then-first first second e)) (test-other (ltb 0 (tag x v)) _ _ (then-second first second e))
+      then-both _ _ (test-other (parentRight x v) _ _ (then-first first second e)) (test-other (ltb 0 (tag x v)) _ _ (then-second first second e))
 
   each-other : (f g : ℕ → Checked) → ((i : ℕ) → f i ≡ Fine → g i ≡ Fine) → (n : ℕ) → each f 0 n ≡ Fine → each g 0 n ≡ Fine
   each-other f g same n e = each-all g 0 n (λ i h. same (0 + i) (each-fine f 0 n e i h))
@@ -45,11 +46,11 @@ module _ (s t : ℕ) where
   pattern-other p limit e =
       let size = sizeCheck (length p) limit s in
       let axes = each (axisCheck p s) 0 (steps p) in
-      then-both (size-other (length p) limit (then-first size axes e)) (each-other (axisCheck p s) (axisCheck p t) (axis-other p) (steps p) (then-second size axes e))
+      then-both _ _ (size-other (length p) limit (then-first size axes e)) (each-other (axisCheck p s) (axisCheck p t) (axis-other p) (steps p) (then-second size axes e))
 
   pub tree-other : (x : List ℕ) (limit : ℕ) → treeCheck x limit s ≡ Fine → treeCheck x limit t ≡ Fine
   unfolding treeCheck
   tree-other x limit e =
       let size = sizeCheck (length x) limit s in
       let rows = each (nodeCheck x s) 0 (nodes x) in
-      then-both (size-other (length x) limit (then-first size rows e)) (each-other (nodeCheck x s) (nodeCheck x t) (node-other x) (nodes x) (then-second size rows e))
+      then-both _ _ (size-other (length x) limit (then-first size rows e)) (each-other (nodeCheck x s) (nodeCheck x t) (node-other x) (nodes x) (then-second size rows e))

@@ -4,7 +4,7 @@ use mathlib.Core.Path.{_≡_, refl, _∙_}
 use mathlib.Core.Bool.{Bool, true, false, cond}
 use mathlib.Core.List.{List, [], _∷_}
 use native.Mathlib.Omega.{arith}
-use lib.Dec.{ltb, eqb, leb}
+use lib.Dec.{ltb, leb}
 use lib.ListN.{length}
 use borrow.Author.Tests.{ne-eqb, lt-ltb, le-ltb}
 use Rattle.tables.specs.Limits.{batchLimit}
@@ -19,16 +19,8 @@ use Rattle.order.specs.Model.{Frame, At, here, there, Fits}
 use Rattle.order.specs.Running.{FitFrame}
 use Rattle.order.proofs.Places.{at-below}
 use Rattle.batches.specs.Batches.{meaning, framesFrom, batchOf, checkFrom, batchCheck}
+use Rattle.frames.proofs.Ending.{end-behind}
 use Rattle.batches.proofs.Accepted.{frame-fit}
-
--- every frame ends behind its start
-pub end-behind : (b : List ℕ) (at : ℕ) → at + 2 ≤ endOf b at
-unfolding endOf
-end-behind b at = go (eqb (kind b at) 2)
-  where
-    go : (t : Bool) → at + 2 ≤ cond t (treeAt at (count b (at + 1)) + 1 + 2 * count b (treeAt at (count b (at + 1)))) (treeAt at (count b (at + 1)))
-    go true = omega arith
-    go false = omega arith
 
 -- where the code finds its end
 module _ (b : List ℕ) (at : ℕ) {k e : ℕ} (is : k ≡ kind b at) (steps : e ≡ treeAt at (count b (at + 1))) where

@@ -1,13 +1,22 @@
 -- The three demands hold.
-use Prim.Native.Nat.{ℕ, _*_, _<_}
+use Prim.Native.Nat.{ℕ, _*_, _<_, _≤_}
 use mathlib.Core.Path.{_≡_, refl, sym, _∙_}
+use mathlib.Core.Bool.{Bool, true, false, cond}
 use mathlib.Core.List.{List}
 use mathlib.Core.Logic.{_↔_}
 use native.Mathlib.Omega.{arith}
+use borrow.Author.Tests.{le-leb, lt-leb}
+use lib.Dec.{ltb, leb}
 use lib.ListN.{length, take}
+use Rattle.tables.specs.Limits.{batchLimit}
+use Rattle.tables.specs.Checks.{test, refuse, outputCheck}
 use Rattle.tables.specs.declared.refusal.Refusal.{Refusal}
 use Rattle.tables.specs.declared.refusal.Checked.{Checked}
 use Rattle.tables.specs.declared.refusal.Checked.the-variants.{Fine, Refused}
+use Rattle.frames.specs.Frames.{frameCheck, frameOf, answered, frameAt}
+use Rattle.walker.specs.Walker.{answerOf, stepAt}
+use Rattle.walker.specs.declared.Answer.the-variants as walker
+use Rattle.printer.proofs.Settled.{printed-one}
 use Rattle.reading.proofs.Laws.{read-selects}
 use Rattle.updating.specs.Updating as updating
 use Rattle.updating.specs.declared.delete.Deleted.the-variants as deleted
@@ -39,6 +48,29 @@ insert-refused : (c : Checked) (n used : ℕ) (r : Refusal) → inserted.Refused
 insert-refused Fine n used r e = let z : _≡_ {A = ℕ} 0 1 = cc in absurd (omega arith)
 insert-refused (Refused q) n used r e = cc
 
+-- where the words are few enough the walker's refusal is that of its frame
+walk-refused : (b : List ℕ) (n at : ℕ) (why : Refusal) → length b ≤ batchLimit → stepAt b n at ≡ walker.Refused why → frameCheck b n at ≡ Refused why
+unfolding stepAt frameAt
+walk-refused b n at why few e = go (ltb at (length b)) (frameCheck b n at) (rw (le-leb (length b) batchLimit few) at e)
+  where
+    go : (t : Bool) (c : Checked) → cond t (answerOf (answered c (frameOf b at))) walker.Over ≡ walker.Refused why → c ≡ Refused why
+    go true Fine h = let z : _≡_ {A = ℕ} 0 1 = cc in absurd (omega arith)
+    go true (Refused r) h = cc
+    go false c h = let z : _≡_ {A = ℕ} 0 1 = cc in absurd (omega arith)
+
+walk-long : (b : List ℕ) (n at : ℕ) → batchLimit < length b → stepAt b n at ≡ walker.Refused (record { number = 10; table = 6; place = 0 })
+unfolding stepAt
+walk-long b n at long = rw (lt-leb (length b) batchLimit long)
+
+-- an output that is too short is refused by 7
+seven : (wanted have : ℕ) (why : Refusal) → outputCheck wanted have ≡ Refused why → why .number ≡ 7
+unfolding outputCheck
+seven wanted have why e = go (leb wanted have) e
+  where
+    go : (t : Bool) → test t (refuse 7 4 0) ≡ Refused why → why .number ≡ 7
+    go true h = let z : _≡_ {A = ℕ} 0 1 = cc in absurd (omega arith)
+    go false h = cc
+
 pub demand-one : DemandOne
 demand-one =
     record {
@@ -57,6 +89,13 @@ demand-one =
       plans = λ b before after why h. (thirteen.plans b (length before) .numbered why (h .0), h .1);
       lines-in = λ s line before after why h. (thirteen.lines-in s line (length before) .numbered why (h .0), h .1);
       lines-out = λ ws before after why h. (thirteen.lines-out ws (length before) .numbered why (h .0), h .1);
+      walks = λ b n at why few h.
+          let fails = walk-refused b n at why few h in
+          (thirteen.frames b n at .numbered why fails, fails);
+      long-walks = walk-long;
+      prints = λ s before after why h. (seven (length (h .text)) (length before) why (h .answered .0), h .answered .1);
+      prints-one = printed-one;
+      prints-refusal = λ s line why h. thirteen.stops h;
     }
 
 -- where it is not refused, the verdict's count tells whether there is a conflict

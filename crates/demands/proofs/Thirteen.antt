@@ -7,6 +7,7 @@ use mathlib.Core.Path.{_≡_, refl}
 use lib.Dec.{T, leb, ltb, lit≤}
 use lib.ListN.{length}
 use Rattle.tables.specs.Documents.{Doc}
+use Rattle.tables.specs.declared.refusal.Refusal.{Refusal}
 use Rattle.tables.specs.declared.refusal.Checked.{Checked}
 use Rattle.tables.specs.declared.refusal.Checked.the-variants.{Fine, Refused}
 use Rattle.tables.specs.Checks.{refuse, _then_, test, each, sizeCheck, axisCheck, patternCheck, nodeCheck, treeCheck, usedCheck, markCheck, documentCheck, outputCheck}
@@ -19,7 +20,8 @@ use Rattle.conflict.specs.Conflict.{Update, delete, insert}
 use Rattle.admission.specs.Order.{roomCheck, patternsCheck, deepDeleteCheck, deepInsertCheck, deleteCheck, insertCheck, deepCheck, verdictCheck}
 use Rattle.batches.specs.Batches.{checkFrom, batchCheck, planCheck}
 use Rattle.lines.specs.Lines.{characterCheck, lineCheck}
-use Rattle.demands.specs.Demands.{Thirteen}
+use Rattle.printer.specs.Printer.{takeCheck, Lines, bad, good, stopped}
+use Rattle.demands.specs.Demands.{Numbered, Thirteen}
 
 fine : Thirteen Fine
 fine = record { numbered = λ r e. let z : _≡_ {A = ℕ} 0 1 = cc in absurd (omega arith) }
@@ -144,9 +146,21 @@ unfolding planCheck batchCheck
 plans b words = search (chained, tested, frames-from, outputs)
 
 -- in a line
-pub lines-in : (s : List ℕ) (line room : ℕ) → Thirteen (lineCheck s line then outputCheck (length s / 4) room)
+line-of : (s : List ℕ) (line : ℕ) → Thirteen (lineCheck s line)
 unfolding lineCheck characterCheck
-lines-in s line room = search (chained, tested, walked, outputs)
+line-of s line = search (chained, tested, walked)
+
+pub lines-in : (s : List ℕ) (line room : ℕ) → Thirteen (lineCheck s line then outputCheck (length s / 4) room)
+lines-in s line room = search (chained, line-of, outputs)
 
 pub lines-out : (ws : List ℕ) (room : ℕ) → Thirteen (outputCheck (4 * length ws) room)
 lines-out ws room = outputs (4 * length ws) room
+
+-- in lines one after another
+taken : (l : List ℕ) (n : ℕ) (b : List ℕ) → Thirteen (takeCheck l n b)
+unfolding takeCheck
+taken l n b = search (chained, tested, line-of, frames)
+
+pub stops : {s : List ℕ} {at n : ℕ} {b kinds : List ℕ} {line : ℕ} {why : Refusal} → Lines s at n b kinds (stopped line why) → Numbered why
+stops (bad {at = at} {n = n} {b = b} {r = r} h e) = taken _ n b .numbered r e
+stops (good h e rest) = stops rest

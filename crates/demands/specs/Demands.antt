@@ -1,17 +1,19 @@
 -- The customer's three demands over the public promises. That every call ends is part of what it means that a function is proved.
 use Prim.Native.Nat.{ℕ, _+_, _*_, _-_, _<_, _≤_}
 use mathlib.Core.Path.{_≡_}
-use mathlib.Core.List.{List}
+use mathlib.Core.List.{List, []}
 use mathlib.Core.Logic.{_↔_}
 use lib.ListN.{length, getD, take}
 use Rattle.tables.specs.Words.{steps, nodes}
-use Rattle.tables.specs.Limits.{usedLimit, wordLimit}
+use Rattle.tables.specs.Limits.{usedLimit, wordLimit, batchLimit}
 use Rattle.tables.specs.Documents.{Doc, Sound}
 use Rattle.tables.specs.declared.refusal.Refusal.{Refusal}
 use Rattle.tables.specs.declared.refusal.Checked.{Checked}
 use Rattle.tables.specs.declared.refusal.Checked.the-variants.{Fine, Refused}
 use Rattle.tables.specs.Checks.{patternCheck, treeCheck, documentCheck}
 use Rattle.frames.specs.Frames.{frameCheck}
+use Rattle.walker.specs.Walker.{stepAt}
+use Rattle.walker.specs.declared.Answer.the-variants as walker
 use Rattle.plain.specs.Plain.{PlainRead}
 use Rattle.reading.specs.Reading.{Read}
 use Rattle.updating.specs.Updating.{Delete, Insert}
@@ -34,6 +36,9 @@ use Rattle.batch.specs.declared.plan.Planned.the-variants as planned
 use Rattle.lines.specs.Lines.{ReadAs, WrittenAs}
 use Rattle.lines.specs.declared.Parsed.the-variants as parsed
 use Rattle.lines.specs.declared.Spelled.the-variants as spelled
+use Rattle.printer.specs.Printer.{Lines, stopped, PrintedAs}
+use Rattle.printer.specs.declared.Printed.{Printed}
+use Rattle.printer.specs.declared.Printed.the-variants as printed
 
 -- every word of the list has 16 bits
 abbrev pub Words : List ℕ → Type 0
@@ -63,6 +68,13 @@ pub record DemandOne : Type 0 where
   pub plans : (b before after : List ℕ) (why : Refusal) → Plan b before after (planned.Refused why) → Numbered why × (after ≡ before)
   pub lines-in : (s : List ℕ) (line : ℕ) (before after : List ℕ) (why : Refusal) → ReadAs s line before after (parsed.Refused why) → Numbered why × (after ≡ before)
   pub lines-out : (ws before after : List ℕ) (why : Refusal) → WrittenAs ws before after (spelled.Refused why) → Numbered why × (after ≡ before)
+  -- the walker is refused at a frame by the order for a batch, and over 16,384 words by 10 at every call
+  pub walks : (b : List ℕ) (n at : ℕ) (why : Refusal) → length b ≤ batchLimit → stepAt b n at ≡ walker.Refused why → Numbered why × (frameCheck b n at ≡ Refused why)
+  pub long-walks : (b : List ℕ) (n at : ℕ) → batchLimit < length b → stepAt b n at ≡ walker.Refused (record { number = 10; table = 6; place = 0 })
+  -- printing is refused by 7 alone; else its bytes are fixed, and a refusal that they tell is one of the thirteen
+  pub prints : (s before after : List ℕ) (why : Refusal) → PrintedAs s before after (printed.Refused why) → (why .number ≡ 7) × (after ≡ before)
+  pub prints-one : (s before one two : List ℕ) (x y : Printed) → PrintedAs s before one x → PrintedAs s before two y → (x ≡ y) × (one ≡ two)
+  pub prints-refusal : (s : List ℕ) (line : ℕ) (why : Refusal) → Lines s 0 0 [] [] (stopped line why) → Numbered why
 
 -- Demand 2: a verdict that is not refused says yes exactly if some finite document shows a difference, and then writes such a document,
 -- of the fewest nodes possible and never more than the steps of both patterns together less one

@@ -1,2 +1,3 @@
 -- Laws of frames.
 pub mod Branches
+pub mod Ending

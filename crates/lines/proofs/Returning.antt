@@ -15,11 +15,11 @@ use Rattle.tables.specs.declared.refusal.Checked.the-variants.{Fine}
 use Rattle.lines.proofs.Digits.{digit-byte, byte-digit}
 use Rattle.lines.proofs.Promise.{line-digits, line-whole}
 
-length-lineOf : (ws : List ℕ) → length (lineOf ws) ≡ 4 * length ws
+pub length-lineOf : (ws : List ℕ) → length (lineOf ws) ≡ 4 * length ws
 unfolding lineOf
 length-lineOf ws = length-tab (byteAt ws) (4 * length ws)
 
-length-wordsOf : (s : List ℕ) → length (wordsOf s) ≡ length s / 4
+pub length-wordsOf : (s : List ℕ) → length (wordsOf s) ≡ length s / 4
 unfolding wordsOf
 length-wordsOf s = length-tab (wordAt s) (length s / 4)
 

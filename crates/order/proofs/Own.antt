@@ -1,9 +1,9 @@
 -- Orders that there are: every batch's own order, and one in which a read goes before an update that it does not conflict with.
-use Prim.Native.Nat.{ℕ, zero, suc, _+_, _<_}
+use Prim.Native.Nat.{ℕ, zero, suc, _+_, _<_, _≤_}
 use native.Mathlib.Omega.{arith}
 use native.Mathlib.Nat.{zero-add, add-zero, add-suc, suc-add}
-use mathlib.Core.Path.{_≡_, refl}
-use mathlib.Core.Bool.{Bool, false}
+use mathlib.Core.Path.{_≡_, refl, sym}
+use mathlib.Core.Bool.{Bool, true, false, cond, false≢true}
 use mathlib.Core.List.{List, [], _∷_}
 use lib.ListN.{length}
 use Rattle.order.specs.Model.{Frame, read, update, At, here, there, updatesAt, earlier, number, nearest, slot}
@@ -36,9 +36,9 @@ module _ {Read Update : Type 0} where
     every = λ k h. record { place = k; there = rw (zero-add k) at (count-at 0 (length b) k h) };
     once = λ p q. omega (arith, counted 0 (length b) p, counted 0 (length b) q);
     only = λ p. omega (arith, counted 0 (length b) p);
-    in-sequence = λ p q. rising;
-    after-slot = λ {i} {j} {r} p q e. rising (slot-before conflicts b i j r e);
-    before-later = λ p q. rising;
+    in-sequence = λ p q h. rising (omega arith);
+    after-slot = λ {i} {j} {r} p q e. rising (slot-before conflicts b i j r (omega arith));
+    before-later = λ p q h. rising (omega arith);
   }
     where
       rising : {i j : ℕ} → i < j → Before (countUp 0 (length b)) i j
@@ -53,7 +53,7 @@ module _ {Read Update : Type 0} where
     once = λ p q. omega (arith, turned p, turned q);
     only = λ p. omega (arith, turned p);
     in-sequence = λ p q h. absurd (omega (arith, first p, first q));
-    after-slot = λ p q e. absurd (no-slot p q e);
+    after-slot = λ p q e. absurd (no-slot p q (omega arith));
     before-later = λ p q h. absurd (omega (arith, first q));
   }
     where
@@ -71,8 +71,12 @@ module _ {Read Update : Type 0} where
       first here = refl
       first (there (there q)) = absurd (omega (arith, at-below q))
 
+      no-number : (t : Bool) → t ≡ false → _≡_ {A = ℕ} (cond t 1 0) 0
+      no-number false h = refl
+      no-number true h = absurd (false≢true (sym h))
+
       no-slot : {i j : ℕ} {s : Read} {w : Update} → At (update u ∷ read r ∷ []) i (read s) → At (update u ∷ read r ∷ []) j (update w)
-          → number (update u ∷ read r ∷ []) j ≡ slot conflicts (update u ∷ read r ∷ []) i s → ⊥
-      no-slot (there here) here e = omega (arith, rw clear at e)
+          → number (update u ∷ read r ∷ []) j ≤ slot conflicts (update u ∷ read r ∷ []) i s → ⊥
+      no-slot (there here) here e = omega (arith, no-number (conflicts r u) clear)
       no-slot (there (there p)) q e = absurd (omega (arith, at-below p))
       no-slot (there here) (there (there q)) e = absurd (omega (arith, at-below q))

@@ -2,7 +2,7 @@
 use Prim.Native.Nat.{ℕ, zero, suc, _<_, _≤_}
 use native.Mathlib.Omega.{arith}
 use native.Mathlib.Decide.{le-ind}
-use mathlib.Core.Path.{_≡_, refl, sym, _∙_, ap, subst}
+use mathlib.Core.Path.{_≡_, refl, sym, _∙_, subst}
 use mathlib.Core.Bool.{Bool, true, false, cond, false≢true}
 use mathlib.Core.List.{List, [], _∷_, _++_}
 use mathlib.Core.Logic.{_≢_}
@@ -10,21 +10,21 @@ use lib.ListN.{length, length-append}
 use Rattle.order.specs.Model.{Frame, read, update, At, here, there, updates, updatesAt, earlier, number, nearest, slot}
 use Rattle.order.proofs.Places.{at-one, by-kind, not-both}
 
+either-most : (t : Bool) {x y most : ℕ} → x ≤ most → y ≤ most → cond t x y ≤ most
+either-most true h k = h
+either-most false h k = k
+
 nearest-most : {Update : Type 0} (meant : Update → Bool) (us : List Update) → nearest meant us ≤ length us
 unfolding nearest
 nearest-most meant [] = omega arith
-nearest-most meant (u ∷ us) = go (meant u) (nearest-most meant us)
-  where
-    go : (t : Bool) → nearest meant us ≤ length us → cond t (suc (length us)) (nearest meant us) ≤ suc (length us)
-    go true h = omega arith
-    go false h = omega arith
+nearest-most meant (u ∷ us) = either-most (meant u) (omega arith) (omega (arith, nearest-most meant us))
 
 module _ {Read Update : Type 0} where
   -- batches that agree on a read and on the updates before it give it the same slot, whatever the other reads are
   pub slot-same : (conflicts : Read → Update → Bool) (b c : List (Frame Read Update)) (k l : ℕ) (r : Read)
       → earlier b k ≡ earlier c l → slot conflicts b k r ≡ slot conflicts c l r
   unfolding slot
-  slot-same conflicts b c k l r same = ap (nearest (conflicts r)) same
+  slot-same conflicts b c k l r same = rw same
 
   earlier-more : (b : List (Frame Read Update)) {i j : ℕ} → i ≤ j → length (earlier b i) ≤ length (earlier b j)
   unfolding earlier
@@ -33,9 +33,9 @@ module _ {Read Update : Type 0} where
       (λ m a rest. omega (arith, length-append (updatesAt b m) (earlier b m)))
       j h
 
-  -- the update of a read's slot stands before the read
+  -- the update of a read's slot stands before the read, and so does every update with a lesser number
   pub slot-before : (conflicts : Read → Update → Bool) (b : List (Frame Read Update)) (i j : ℕ) (r : Read)
-      → number b j ≡ slot conflicts b i r → j < i
+      → number b j ≤ slot conflicts b i r → j < i
   unfolding number slot
   slot-before conflicts b i j r e =
       let late : ¬ (i ≤ j) = λ h. omega (arith, nearest-most (conflicts r) (earlier b i), earlier-more b h) in

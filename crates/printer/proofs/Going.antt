@@ -17,7 +17,7 @@ use Rattle.tables.proofs.Accepted.{held, then-first, then-second}
 use Rattle.parts.specs.Parts.{part}
 use Rattle.frames.specs.Frames.{kind, endOf, frameCheck}
 use Rattle.batches.proofs.Accepted.{frame-below}
-use Rattle.batches.proofs.Frames.{end-behind}
+use Rattle.frames.proofs.Ending.{end-behind}
 use Rattle.lines.specs.Lines.{lineCheck, wordsOf}
 use Rattle.printer.specs.Printer.{lineEnd, lineAt, takeCheck, Outcome, stopped, taken, Lines, none, bad, good}
 use Rattle.printer.specs.Reading.{Roomy, TakenAs, RanAs}

@@ -6,12 +6,10 @@ use native.Mathlib.Omega.{arith}
 use lib.ListN.{length, getD, drop}
 use Rattle.tables.specs.declared.refusal.Refusal.{Refusal}
 use Rattle.tables.specs.declared.refusal.Checked.the-variants as checked
-use Rattle.conflict.specs.Conflict.{Update}
-use Rattle.order.specs.Model.{Frame, read, update}
+use Rattle.order.specs.Model.{read, update}
 use Rattle.order.proofs.Places.{by-kind}
 use Rattle.batches.specs.Batches.{batchOf}
-use Rattle.batch.specs.Batch.{WordIs}
-use Rattle.batch.proofs.Slots.{slot-one}
+use Rattle.batch.proofs.Laws.{word-one}
 use Rattle.printer.specs.Printer.{Outcome, stopped, taken, Lines, none, bad, good, PlanIs, threeOf, planText, Prints, refusal, plan, Answered, PrintedAs}
 use Rattle.printer.specs.declared.Printed.{Printed}
 use Rattle.printer.specs.declared.Printed.the-variants.{Refused, Bytes}
@@ -28,11 +26,6 @@ lines-one (bad h e) (good l f y) = let z : _≡_ {A = ℕ} 0 1 = cc in absurd (o
 lines-one (good h e x) (none l) = absurd (omega (arith, h, l))
 lines-one (good h e x) (bad l f) = let z : _≡_ {A = ℕ} 0 1 = cc in absurd (omega arith)
 lines-one (good h e x) (good l f y) = lines-one x y
-
--- a frame has one word
-word-one : (b : List (Frame (List ℕ) Update)) (k : ℕ) (f : Frame (List ℕ) Update) {v w : ℕ} → WordIs b k f v → WordIs b k f w → v ≡ w
-word-one b k (read r) s t = slot-one s t
-word-one b k (update u) s t = s ∙ sym t
 
 plan-one : (b : List ℕ) {p q : List ℕ} → PlanIs b p → PlanIs b q → (k : ℕ) → k < length (batchOf b) → getD p k 0 ≡ getD q k 0
 plan-one b x y k h =

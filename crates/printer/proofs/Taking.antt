@@ -17,10 +17,11 @@ use Rattle.tables.specs.declared.refusal.Checked.{Checked}
 use Rattle.tables.specs.declared.refusal.Checked.the-variants.{Fine, Refused}
 use Rattle.tables.proofs.Accepted.{held, then-first, then-second}
 use Rattle.selection.proofs.Runs.{both}
-use Rattle.selection.proofs.Lists.{length-tab, length-behind}
-use Rattle.lines.specs.Lines.{digitOf, characterCheck, lineCheck, wordAt, wordsOf, ReadAs}
+use Rattle.selection.proofs.Lists.{length-behind}
+use Rattle.lines.specs.Lines.{digitOf, characterCheck, lineCheck, wordsOf, ReadAs}
 use Rattle.lines.specs.declared.Parsed.{Parsed}
 use Rattle.lines.specs.declared.Parsed.the-variants as parsed
+use Rattle.lines.proofs.Returning.{length-wordsOf}
 use Rattle.printer.specs.Printer.{takeCheck}
 use Rattle.printer.specs.Reading.{Roomy, TakenAs}
 use Rattle.printer.specs.declared.Taken.{Taken}
@@ -61,10 +62,6 @@ line-short l line e =
     (held (ltb 0 (length l) && (eqb (length l % 4) 0 && leb (length l) digitLimit)) _
     (then-first (test (ltb 0 (length l) && (eqb (length l % 4) 0 && leb (length l) digitLimit)) (refuse 13 6 line)) _ e))
     (λ some rest. both (eqb (length l % 4) 0) (leb (length l) digitLimit) rest (λ h k. leb-true (length l) digitLimit k))
-
-pub length-wordsOf : (l : List ℕ) → length (wordsOf l) ≡ length l / 4
-unfolding wordsOf
-length-wordsOf l = length-tab (wordAt l) (length l / 4)
 
 never : {A : Type 0} (r : Refusal) → Fine ≡ Refused r → A
 never r e = let z : _≡_ {A = ℕ} 0 1 = cc in absurd (omega arith)

@@ -11,15 +11,12 @@ use borrow.Author.Tests.{le-leb}
 use Rattle.tables.specs.Checks.{test, refuse, outputCheck}
 use Rattle.tables.specs.declared.refusal.Checked.the-variants.{Fine, Refused}
 use Rattle.tables.proofs.Accepted.{held}
-use Rattle.selection.proofs.Lists.{length-tab, length-behind}
-use Rattle.lines.specs.Lines.{byteAt, lineOf, WrittenAs}
+use Rattle.selection.proofs.Lists.{length-behind}
+use Rattle.lines.specs.Lines.{lineOf, WrittenAs}
 use Rattle.lines.specs.declared.Spelled.{Spelled}
 use Rattle.lines.specs.declared.Spelled.the-variants as spelled
+use Rattle.lines.proofs.Returning.{length-lineOf}
 use Rattle.printer.specs.Printer.{threeOf, planText}
-
-length-lineOf : (ws : List ℕ) → length (lineOf ws) ≡ 4 * length ws
-unfolding lineOf
-length-lineOf ws = length-tab (byteAt ws) (4 * length ws)
 
 pub length-threeOf : (a b c : ℕ) → length (threeOf a b c) ≡ 13
 unfolding threeOf

@@ -16,6 +16,7 @@ use Rattle.parts.specs.Parts.{count, countCheck, stepsCheck, nodesCheck}
 use Rattle.frames.specs.Frames.{kind, treeAt, kindRight, restCheck, frameCheck, endOf, frameOf, answered, frameAt}
 use Rattle.frames.specs.declared.Frame.{Frame}
 use Rattle.parts.proofs.Branches.{count-room}
+use Rattle.frames.proofs.Ending.{end-behind}
 use Rattle.walker.specs.Walker.{answerOf, stepAt}
 use Rattle.walker.specs.declared.Answer.{Answer}
 use Rattle.walker.specs.declared.Answer.the-variants as answer
@@ -37,15 +38,6 @@ given b n at {f} e = go (leb (length b) batchLimit) refl (ltb at (length b)) (fr
     go true h true (Refused r) fine e = let z : _≡_ {A = ℕ} 0 1 = cc in absurd (omega arith)
     go true h false c fine e = let z : _≡_ {A = ℕ} 0 1 = cc in absurd (omega arith)
     go false h t c fine e = let z : _≡_ {A = ℕ} 0 1 = cc in absurd (omega arith)
-
--- every frame ends behind its start
-pub end-behind : (b : List ℕ) (at : ℕ) → at + 2 ≤ endOf b at
-unfolding endOf
-end-behind b at = go (eqb (kind b at) 2)
-  where
-    go : (t : Bool) → at + 2 ≤ cond t (treeAt at (count b (at + 1)) + 1 + 2 * count b (treeAt at (count b (at + 1)))) (treeAt at (count b (at + 1)))
-    go true = omega arith
-    go false = omega arith
 
 module _ (b : List ℕ) (n at : ℕ) (e : frameCheck b n at ≡ Fine) where
   pub number-below : n < frameLimit

@@ -5,7 +5,7 @@ use lib.ListN.{length}
 use native.Mathlib.Omega.{arith}
 use borrow.Author.Needs.{needs}
 use Rattle.frames.specs.Frames.{endOf}
-use Rattle.batches.proofs.Frames.{end-behind}
+use Rattle.frames.proofs.Ending.{end-behind}
 use Rattle.batches.proofs.Left.{countedFrom, frame-next, count-start, count-on, count-off, count-end}
 use Rattle.batches.proofs.walked.Statement.{statement}
 use Rattle.batches.proofs.walked.Tie as tie
