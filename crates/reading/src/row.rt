@@ -1,4 +1,5 @@
 // The row of a read: the steps one after another, then the answers.
+use crate::nodes::byte_at;
 use crate::states::stepped;
 use tables::words::byte;
 ghost use Prim.Native.Nat.{_≤_};
@@ -34,7 +35,7 @@ fn answers(marks: &[u8], used: usize, row: &mut [u8])
     let mut v = 0;
     while v < used {
         let mark = byte(marks, v);
-        let own = byte(row, v);
+        let own = byte_at(row, v);
         row[v] = selected(mark, own);
         v += 1;
     }

@@ -9,10 +9,6 @@ module _ (xs : List ℕ) (i : ℕ) (h : length xs ≤ i) where
   pub outside : 0 ≡ getD xs i 0
   outside = sym (List·getD-eq-default xs 0 h)
 
-  -- so does the second word of a pair past the length
-  pub outside-second : 0 ≡ getD xs (2 * i + 1) 0
-  outside-second = sym (List·getD-eq-default xs 0 (omega arith))
-
 -- a pair whose first word, or whose second, lies past the end
 module _ (xs : List ℕ) (v : ℕ) where
   pub past-first : length xs - length xs / 2 ≤ v → 0 ≡ getD xs (2 * v) 0

@@ -9,7 +9,6 @@ use lib.Dec.{eqb, leb}
 use lib.ListN.{length}
 use borrow.Author.Tests.{eq-eqb, ne-eqb, lt-ltb, le-ltb, not-true, not-false}
 use Rattle.tables.specs.Words.{label, tag, axis}
-use Rattle.tables.proofs.Outside.{outside, outside-second}
 use Rattle.selection.specs.Ways.{takes, stays}
 use Rattle.conflict.specs.Meeting.{agree, landing, shared, sooner, least, onward}
 
@@ -91,9 +90,3 @@ onward-none may n h e = rw (not-false may h, eq-eqb n 0 e)
 pub onward-more : (may : Bool) (n : ℕ) → not may ≡ false → (n ≡ 0 → ⊥) → n + 1 ≡ onward may n
 unfolding onward
 onward-more may n h e = rw (not-false may h, ne-eqb n 0 e)
-
-pub second-outside : (t : List ℕ) (v : ℕ) → length t ≤ v → 0 ≡ tag t v
-second-outside t v h = outside-second t v h
-
-pub word-outside : (t : List ℕ) (v : ℕ) → length t ≤ 2 * v + 1 → 0 ≡ tag t v
-word-outside t v h = outside t (2 * v + 1) h

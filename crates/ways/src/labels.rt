@@ -8,14 +8,10 @@ ghost use Rattle.conflict.specs.Meeting.{agree, landing, shared};
 pub(crate) fn label_word(t: &[u16], v: usize) -> u16
     ensures { λ r. ⌜ r ≡ tag (now (t .entry)) v ⌝ }
 {
-    if t.len() <= v {
-        return 0;
+    if v < t.len() / 2 {
+        return t[2 * v + 1];
     }
-    let k = 2 * v + 1;
-    if t.len() <= k {
-        return 0;
-    }
-    t[k]
+    0
 }
 
 // Whether two steps can take one label.

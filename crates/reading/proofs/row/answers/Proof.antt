@@ -26,7 +26,7 @@ answers-spec =
     μ-loop
     (λ c. (search needs, row-start _ _))
     (λ c κs. search needs)
-    (λ c κs. search needs)
+    (λ c κs. row-within _ _ _ (c .before .before .before .loop .inv .1) _ (c .before .before .loop-test .taken) (c .before .before .before .before .before .before .pre))
     (λ c κs. search needs)
     (λ c. row-within _ _ _ (c .before .before .before .before .before .loop .inv .1) _ (c .before .before .before .before .loop-test .taken)
     (c .before .before .before .before .before .before .before .before .pre))
@@ -36,7 +36,7 @@ answers-spec =
       search needs,
       answer-more _ _ _ _ (c .before .before .before .before .loop-test .taken)
           (c .before .before .before .before .before .before .before .before .pre) (c .before .before .before .before .before .loop .inv .1)
-          (c .before .before .before .byte .ensures) (c .before .byte2 .ensures) (c .selected .ensures),
+          (c .before .before .before .byte .ensures) (c .before .byte-at .ensures) (c .selected .ensures),
     ))
     (λ c. row-long _ _ _ (c .before .loop .inv .1) (le-trans (c .before .loop .inv .0) (c .before .before .before .before .pre)))
     (λ c. row-end _ _ _ (c .before .loop .inv .1) _ (c .before .loop .inv .0) (c .loop-test .left)))

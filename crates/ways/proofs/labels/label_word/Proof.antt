@@ -1,5 +1,5 @@
 -- Inside the table the label itself, outside it 0.
-use Rattle.ways.proofs.Branches.{second-outside, word-outside}
+use Rattle.tables.proofs.Outside.{past-second}
 use borrow.Author.Needs.{needs}
 use Rattle.ways.proofs.labels.label_word.Statement.{statement}
 use Rattle.ways.proofs.labels.label_word.Tie as tie
@@ -7,4 +7,10 @@ use Rattle.ways.proofs.labels.label_word.Tie as tie
 pub label-word-spec : {M : Type 1} → statement M
 label-word-spec =
     tie.close
-    (tie.spec (λ c. search second-outside) (λ c. search needs) (λ c. search needs) (λ c. search word-outside) (λ c. search needs) (λ c. search needs) (λ c. search needs))
+    (tie.spec
+    (λ c. search needs)
+    (λ c. search needs)
+    (λ c. search needs)
+    (λ c. search needs)
+    (λ c. search needs)
+    (λ c. search past-second))
