@@ -10,14 +10,10 @@ use Rattle.tables.specs.Checks.{_then_, test, refuse, each, sizeCheck, axisRigh
 use Rattle.tables.specs.declared.refusal.Refusal.{Refusal}
 use Rattle.tables.specs.declared.refusal.Checked.{Checked}
 use Rattle.tables.specs.declared.refusal.Checked.the-variants.{Fine, Refused}
-use Rattle.tables.proofs.Accepted.{held, then-first, then-second, each-fine, each-all}
+use Rattle.tables.proofs.Accepted.{held, then-first, then-second, then-both, each-fine, each-all}
 
 test-other : (b : Bool) (r w : Refusal) → test b (Refused r) ≡ Fine → test b (Refused w) ≡ Fine
 test-other b r w e = rw (held b r e)
-
--- where both checks are fine, so is one after the other
-pub then-both : (a b : Checked) → a ≡ Fine → b ≡ Fine → (a then b) ≡ Fine
-then-both a b p q = rw (p, q)
 
 module _ (s t : ℕ) where
   size-other : (n limit : ℕ) → sizeCheck n limit s ≡ Fine → sizeCheck n limit t ≡ Fine

@@ -1,7 +1,7 @@
 -- What the check of a frame says where it is fine: of its number, its kind, its steps and its nodes.
 use Prim.Native.Nat.{ℕ, _+_, _*_, _<_, _≤_}
 use mathlib.Core.Path.{_≡_, refl}
-use mathlib.Core.Bool.{Bool, true, false, _||_}
+use mathlib.Core.Bool.{true, _||_}
 use mathlib.Core.List.{List}
 use mathlib.Core.Logic.{_⊎_, inl, inr}
 use native.Mathlib.Decide.{decLt}
@@ -16,7 +16,7 @@ use Rattle.tables.specs.Checks.{_then_, test, refuse, patternCheck, treeCheck}
 use Rattle.tables.specs.declared.refusal.Checked.{Checked}
 use Rattle.tables.specs.declared.refusal.Checked.the-variants.{Fine, Refused}
 use Rattle.tables.proofs.Accepted.{held, then-first, then-second}
-use Rattle.tables.proofs.Soundness.{Words, accepted-pattern, accepted-tree}
+use Rattle.tables.proofs.Soundness.{Words, either-of, accepted-pattern, accepted-tree}
 use Rattle.conflict.specs.Conflict.{delete, insert}
 use Rattle.order.specs.Running.{Fit, FitFrame}
 use Rattle.parts.specs.Parts.{part, count, placed, countCheck, stepsCheck, nodesCheck}
@@ -41,10 +41,6 @@ part-words b from n words i = go (decLt i n)
 
 pub part-length : (b : List ℕ) (from n : ℕ) → from + n ≤ length b → length (part b from n) ≡ n
 part-length b from n h = simp (length-take, length-drop) (omega arith)
-
-either-of : (a b : Bool) → (a || b) ≡ true → (a ≡ true) ⊎ (b ≡ true)
-either-of true b e = inl refl
-either-of false b e = inr e
 
 module _ (b : List ℕ) (n at : ℕ) (e : frameCheck b n at ≡ Fine) where
   pub frame-below : n < frameLimit

@@ -15,7 +15,7 @@ use Rattle.tables.specs.Documents.{Doc, bare, Sound}
 use Rattle.selection.specs.Embeddings.{Child, Below, one, more}
 use Rattle.selection.specs.Ways.{empty, up, run, takes, stays, last, sel, selected}
 use Rattle.selection.specs.Operations.{hits}
-use Rattle.selection.proofs.Up.{way-node}
+use Rattle.selection.proofs.Up.{some-up, way-node}
 use Rattle.selection.proofs.Runs.{Run, first, step, pass, either, of-runs, to-runs, stays-last, run-below, hits-run}
 use Rattle.selection.proofs.Selecting.{selecting}
 use Rattle.selection.proofs.Inserting.{selected-used}
@@ -26,7 +26,7 @@ use Rattle.conflict.proofs.Steps.{landing-named, landing-asked}
 use Rattle.conflict.proofs.Meeting.{Labels, more, Common}
 use Rattle.conflict.proofs.Shortest.{meetingOf-labels, meetingOf-common, fewestOf-within}
 use Rattle.conflict.proofs.Chains.{chain-sound, chain-selected, chain-below}
-use Rattle.conflict.proofs.Depth.{way-some, by-selected}
+use Rattle.conflict.proofs.Depth.{by-selected}
 
 -- the last step lands at the nearest label, and the steps before it run on over the rest
 record Lands (p : List ℕ) (w : List ℕ) : Type 0 where
@@ -126,7 +126,7 @@ module _ (r : List ℕ) (u : Update) (read : Pattern r) (update : Pattern (patte
           let inside : v < d .used = selected-used p d v here in
           let root : 0 < v = not-root (t .under) in
           let w : List ℕ = up (t .tree) (parent (t .tree) v) in
-          let some : empty w ≡ false = way-some (t .sound) (parent (t .tree) v) (omega (arith, t .sound .parents v root inside)) in
+          let some : empty w ≡ false = some-up (t .tree) (parent (t .tree) v) in
           let lands : Lands p w = by-selected (t .sound) p v here (λ updates short. lands-of p (tag (t .tree) v) w some (rw (way-node (t .sound) v root inside) at updates)) in
           let hit : hits r w ≡ true = hits-parent r (t .sound) (t .under) inside (selecting read (t .sound) (t .node) .1 (t .read)) in
           (lands .two, fewestOf-within r true p false (last r) (pred (last p)) w (record { reads = sym (hits-run r w) ∙ hit; updates = lands .before }) .some)

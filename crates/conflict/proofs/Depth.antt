@@ -1,37 +1,19 @@
 -- The nodes on the way of a present node are present and of different numbers, so it has no more labels than the document has present nodes.
-use Prim.Native.Nat.{ℕ, zero, suc, _<_, _≤_}
+use Prim.Native.Nat.{ℕ, suc, _<_, _≤_}
 use native.Mathlib.Omega.{arith}
-use mathlib.Core.Path.{_≡_, refl}
-use mathlib.Core.Bool.{Bool, true, false, cond}
+use mathlib.Core.Path.{_≡_}
+use mathlib.Core.Bool.{true}
 use mathlib.Core.List.{List}
 use lib.ListN.{length}
 use Rattle.tables.specs.Documents.{Doc, present, Sound}
 use Rattle.selection.specs.Lists.{count}
-use Rattle.selection.specs.Ways.{empty, up, sel, selected}
+use Rattle.selection.specs.Ways.{up, sel, selected}
 use Rattle.selection.proofs.Up.{Up, top, node, way-is}
 use Rattle.selection.proofs.Runs.{both}
 use Rattle.selection.proofs.Lists.{count-mono, count-holds}
 use Rattle.selection.proofs.Presence.{present-used}
 
--- no more numbers below n than n
-pub count-most : (f : ℕ → Bool) (n : ℕ) → count f n ≤ n
-unfolding count
-count-most f zero = omega arith
-count-most f (suc n) = go (f n) (count f n) (count-most f n)
-  where
-    go : (b : Bool) (k : ℕ) → k ≤ n → cond b (suc k) k ≤ suc n
-    go true k h = omega arith
-    go false k h = omega arith
-
-some-up : {t w : List ℕ} {v : ℕ} → Up t v w → empty w ≡ false
-some-up top = refl
-some-up (node k u) = refl
-
 module _ {d : Doc} (sound : Sound d) where
-  -- the way of a used node is not empty
-  pub way-some : (v : ℕ) → v < d .used → empty (up (d .rows) v) ≡ false
-  way-some v h = some-up (way-is sound v h)
-
   depth-up : {v : ℕ} {w : List ℕ} → Up (d .rows) v w → present d v ≡ true → length w ≤ count (present d) (suc v)
   depth-up top here = omega (arith, count-holds (present d) 0 1 (omega arith) here)
   depth-up (node {v = v} k u) here =

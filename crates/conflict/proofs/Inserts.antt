@@ -14,6 +14,7 @@ use Rattle.tables.specs.Documents.{Doc, bare, present, Sound}
 use Rattle.selection.specs.Lists.{count}
 use Rattle.selection.specs.Ways.{up, run, last, sel, selected}
 use Rattle.selection.specs.Operations.{points, copies, inserted, stored}
+use Rattle.selection.proofs.Up.{some-up}
 use Rattle.selection.proofs.Keeping.{kept-selected, copy-selected}
 use Rattle.selection.proofs.Inserting.{Placed, old, copied, inserted-placed, inserted-sound, inserted-kept, inserted-copy, point-selected, selected-used, selected-number, selected-point, stored-cases}
 use Rattle.conflict.specs.Conflict.{insert, Differs, Witness, Conflict, Smallest}
@@ -22,7 +23,7 @@ use Rattle.conflict.proofs.Steps.{Within}
 use Rattle.conflict.proofs.Meeting.{Labels}
 use Rattle.conflict.proofs.Crossing.{Crossing, run-some, goes-on-join, goes-on-split, goes-on-before}
 use Rattle.conflict.proofs.Chains.{chain-sound, chain-last, chain-selected-last}
-use Rattle.conflict.proofs.Depth.{way-some, by-selected}
+use Rattle.conflict.proofs.Depth.{by-selected}
 use Rattle.conflict.proofs.Smallest.{Decides, by-differs, differs-at, differs-conflict, smallest, unchanged}
 use Rattle.conflict.proofs.Entering.{Somewhere, of-somewhere, to-somewhere, Entry, entering-entry, entering-within, entering-most, entering-labels}
 
@@ -54,7 +55,7 @@ module _ (r p x : List ℕ) (pattern : Pattern r) (tree : Sound (bare x)) where
       let c : Crossing (goesOn r (up x k)) (λ i. run r false i w) = goes-on-split r (up x k) w (run-some p false (last p) w updates) reads in
       record {
         state = c .state;
-        below = goes-on-before r (up x k) (c .state) (way-some tree k h) (c .left);
+        below = goes-on-before r (up x k) (c .state) (some-up x k) (c .left);
         goes-on = to-somewhere (λ n. goesOn r (up x n) (c .state)) (nodes x) k h (c .left);
         common = record { reads = c .rest; updates = updates };
       }

@@ -14,11 +14,11 @@ use Rattle.tables.specs.Documents.{Doc, bare, present, Sound}
 use Rattle.selection.specs.Lists.{count}
 use Rattle.selection.specs.Ways.{selected}
 use Rattle.selection.proofs.Selecting.{selecting}
+use Rattle.selection.proofs.Lists.{count-most}
 use Rattle.conflict.specs.Conflict.{Update, after, Differs, lost, gained, Witness, Conflict, Smallest}
 use Rattle.conflict.specs.Crossing.{chain}
 use Rattle.conflict.proofs.Steps.{Within}
 use Rattle.conflict.proofs.Chains.{nodes-chain}
-use Rattle.conflict.proofs.Depth.{count-most}
 
 -- two numbers of nodes of a smallest witness are equal
 pub smallest-one : {r : List ℕ} {u : Update} {m n : ℕ} → Smallest r u m → Smallest r u n → m ≡ n

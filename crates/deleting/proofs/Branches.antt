@@ -9,7 +9,7 @@ use Rattle.tables.specs.Words.{steps}
 use Rattle.tables.specs.Checks.{test, refuse}
 use Rattle.tables.specs.declared.refusal.Checked.{Checked}
 use Rattle.tables.specs.declared.refusal.Checked.the-variants.{Fine}
-use Rattle.updating.proofs.Bits.{bit-most}
+use Rattle.selection.proofs.Rows.{bit-most}
 use Rattle.deleting.specs.Striking.{strikes}
 
 module _ (mark own above : ℕ) where
@@ -32,7 +32,7 @@ module _ (mark own above : ℕ) where
 -- a bit
 pub strikes-most : (mark own above : ℕ) {x : ℕ} → x ≡ strikes mark own above → x ≤ 1
 unfolding strikes
-strikes-most mark own above e = bit-most (eqb mark 0 && (eqb own 1 || eqb above 1)) e
+strikes-most mark own above e = rw e (bit-most (eqb mark 0 && (eqb own 1 || eqb above 1)))
 
 module _ (hit mark : ℕ) where
   pub marked-struck : hit ≡ 1 → _≡_ {A = ℕ} 1 (cond (eqb hit 1) 1 mark)

@@ -15,12 +15,12 @@ use Rattle.tables.specs.declared.refusal.Checked.the-variants.{Fine, Refused}
 use Rattle.tables.proofs.Soundness.{Words, used-facts, accepted-tree, accepted-nodes}
 use Rattle.selection.specs.Lists.{count}
 use Rattle.selection.specs.Operations.{copies, fits, inserted}
+use Rattle.selection.proofs.Lists.{count-most}
 use Rattle.selection.proofs.Inserting.{Room}
 use Rattle.updating.specs.declared.insert.Inserted.{Inserted}
 use Rattle.updating.specs.declared.insert.Inserted.the-variants.{Copied, Refused as NotInserted}
 use Rattle.updating.specs.Updating.{insertCheck, insertAnswer, Insert}
 use Rattle.updating.specs.Asking.{chosen, tablesCheck, Asked}
-use Rattle.updating.proofs.Counting.{count-most}
 use Rattle.updating.proofs.Asking.{row-copies, row-points}
 use Rattle.updating.proofs.Accepted.{three-document, three-tree, insert-three, insert-last, insert-tree, insert-room, copied-fine, refused-told}
 use Rattle.inserting.specs.Copying.{Small, Roomy, Grafted, Planned}

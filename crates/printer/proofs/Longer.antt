@@ -12,12 +12,11 @@ use borrow.Author.Tests.{lt-ltb, le-leb}
 use Rattle.tables.specs.Limits.{stepLimit, treeLimit, frameLimit}
 use Rattle.tables.specs.Checks.{_then_, test, refuse, patternCheck, treeCheck}
 use Rattle.tables.specs.declared.refusal.Checked.the-variants.{Fine, Refused}
-use Rattle.tables.proofs.Accepted.{then-first, then-second}
+use Rattle.tables.proofs.Accepted.{then-first, then-second, then-both}
 use Rattle.parts.specs.Parts.{part, count, placed, countCheck, stepsCheck, nodesCheck}
 use Rattle.frames.specs.Frames.{kind, treeAt, kindRight, restCheck, frameCheck, endOf}
 use Rattle.parts.proofs.Branches.{count-here, count-some, count-within, count-room}
 use Rattle.batches.proofs.Accepted.{frame-kind, steps-room, tree-room}
-use Rattle.batch.proofs.Tables.{then-both}
 
 module _ (b more : List ℕ) where
   same-word : (i : ℕ) → i < length b → getD (b ++ more) i 0 ≡ getD b i 0

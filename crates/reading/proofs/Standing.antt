@@ -8,8 +8,8 @@ use native.Mathlib.Omega.{arith}
 use lib.ListN.{getD, set, drop}
 use Rattle.tables.specs.Words.{parent, tag, label}
 use Rattle.selection.specs.Lists.{tab}
-use Rattle.selection.specs.Ways.{up, ups, empty, runs, run, takes, stays}
-use Rattle.selection.proofs.Up.{Falls, up-top, up-node}
+use Rattle.selection.specs.Ways.{up, runs, run, takes, stays}
+use Rattle.selection.proofs.Up.{Falls, up-top, up-node, some-up}
 use Rattle.stepping.specs.Bytes.{packed, low, high, under, reached}
 use Rattle.reading.specs.States.{stands, held, After}
 use Rattle.stepping.proofs.Branches.{reached-under, reached-late, reached-first}
@@ -32,11 +32,6 @@ pub low-held : (p t : List ℕ) (n v : ℕ) → low (held p t n v) ≡ stands p 
 unfolding held stands
 low-held p t zero v = refl
 low-held p t (suc i) v = low-packed (stands p t (suc i) v) (stands p t i v)
-
-some-up : (t : List ℕ) (v : ℕ) → empty (up t v) ≡ false
-unfolding up ups
-some-up t zero = refl
-some-up t (suc v) = refl
 
 module _ (p t : List ℕ) where
   root-reached : (i above : ℕ) → reached (label p i) (stays p false i) i 0 (tag t 0) above ≡ stands p t (suc i) 0

@@ -7,7 +7,7 @@ use Rattle.tables.specs.Limits.{usedLimit}
 use Rattle.tables.specs.Checks.{test, refuse}
 use Rattle.tables.specs.declared.refusal.Checked.{Checked}
 use Rattle.tables.specs.declared.refusal.Checked.the-variants.{Fine}
-use Rattle.updating.proofs.Bits.{bit-most}
+use Rattle.selection.proofs.Rows.{bit-most}
 use Rattle.room.specs.Ticking.{ticked}
 
 module _ (b : ℕ) where
@@ -22,7 +22,7 @@ module _ (b : ℕ) where
 -- a bit
 pub ticked-most : (b : ℕ) {x : ℕ} → x ≡ ticked b → x ≤ 1
 unfolding ticked
-ticked-most b e = bit-most (eqb b 1) e
+ticked-most b e = rw e (bit-most (eqb b 1))
 
 -- the least of 4,096, half the table's words and the marks, found in two steps
 module _ (end words marks : ℕ) {half least : ℕ} (e : half ≡ min (words / 2) marks) (f : least ≡ min usedLimit half) where

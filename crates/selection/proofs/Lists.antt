@@ -106,6 +106,16 @@ count-split f g (suc n) = go (f n) (g n) _ _ _ (count-split f g n)
     go true false k i j e = omega arith
     go false b k i j e = e
 
+-- no more numbers below n than n
+pub count-most : (f : ℕ → Bool) (n : ℕ) → count f n ≤ n
+unfolding count
+count-most f zero = omega arith
+count-most f (suc n) = go (f n) (count f n) (count-most f n)
+  where
+    go : (b : Bool) (k : ℕ) → k ≤ n → cond b (suc k) k ≤ suc n
+    go true k h = omega arith
+    go false k h = omega arith
+
 pub count-mono : (f : ℕ → Bool) (n m : ℕ) → n ≤ m → count f n ≤ count f m
 unfolding count
 count-mono f n = le-ind (λ m. count f n ≤ count f m) (omega arith) (λ m h below. le-trans below (step (f m) (count f m)))

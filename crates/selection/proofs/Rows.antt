@@ -37,7 +37,8 @@ row-one {n} {before} {a} {b} x y = ext-getD 0 a b (x .long ∙ sym (y .long)) (�
         (λ e. x .exactly v h .1 (y .exactly v h .0 e))
     at v (no h) = x .later v (omega arith) ∙ sym (y .later v (omega arith))
 
-bit-most : (b : Bool) → cond b 1 0 ≤ 1
+-- a bit is at most 1, and is 1 exactly where its flag holds
+pub bit-most : (b : Bool) → cond b 1 0 ≤ 1
 bit-most true = omega arith
 bit-most false = omega arith
 

@@ -1,13 +1,14 @@
 -- The way from a node up to the root as a relation, and that `up` computes it wherever parents fall.
 use Prim.Native.Nat.{ℕ, zero, suc, _<_, _≤_}
 use mathlib.Core.Path.{_≡_, refl, ap}
+use mathlib.Core.Bool.{false}
 use mathlib.Core.List.{List, [], _∷_}
 use native.Mathlib.Omega.{arith}
 use lib.ListN.{length}
 use Rattle.tables.specs.Limits.{wordLimit}
 use Rattle.tables.specs.Words.{parent, tag}
 use Rattle.tables.specs.Documents.{Doc, Sound}
-use Rattle.selection.specs.Ways.{up, ups}
+use Rattle.selection.specs.Ways.{empty, up, ups}
 
 pub data Up (t : List ℕ) : ℕ → List ℕ → Type 0 where
   top : Up t 0 (tag t 0 ∷ [])
@@ -62,6 +63,12 @@ module _ (t : List ℕ) (n : ℕ) (falls : Falls t n) where
   all-up P each b (node {v = v} h u) =
       let less : parent t v < v = falls v h b in
       more (each v b) (all-up P each (omega arith) u)
+
+-- no way is empty
+pub some-up : (t : List ℕ) (v : ℕ) → empty (up t v) ≡ false
+unfolding up ups
+some-up t zero = refl
+some-up t (suc v) = refl
 
 pub up-top : (t : List ℕ) → up t 0 ≡ tag t 0 ∷ []
 unfolding up ups

@@ -24,6 +24,10 @@ pub then-second : (a b : Checked) → (a then b) ≡ Fine → b ≡ Fine
 then-second Fine b e = e
 then-second (Refused r) b e = never r e
 
+-- and back: where both checks are fine, so is one after the other
+pub then-both : (a b : Checked) → a ≡ Fine → b ≡ Fine → (a then b) ≡ Fine
+then-both a b e f = rw (e, f)
+
 -- each check that was made is fine
 pub each-fine : (check : ℕ → Checked) (v k : ℕ) → each check v k ≡ Fine → (i : ℕ) → i < k → check (v + i) ≡ Fine
 unfolding each

@@ -22,7 +22,8 @@ use Rattle.tables.proofs.Accepted.{held, then-first, then-second, each-
 abbrev pub Words : List ℕ → Type 0
 Words t = (i : ℕ) → getD t i 0 < wordLimit
 
-either-of : (a b : Bool) → (a || b) ≡ true → (a ≡ true) ⊎ (b ≡ true)
+-- one of two tests holds
+pub either-of : (a b : Bool) → (a || b) ≡ true → (a ≡ true) ⊎ (b ≡ true)
 either-of true b e = inl refl
 either-of false b e = inr e
 

@@ -11,16 +11,6 @@ module _ (f : ℕ → Bool) where
   unfolding count
   count-start = refl
 
-  -- at most as many as there are numbers
-  pub count-most : (n : ℕ) → count f n ≤ n
-  unfolding count
-  count-most zero = omega arith
-  count-most (suc n) = go (f n) (count-most n)
-    where
-      go : (b : Bool) → count f n ≤ n → cond b (suc (count f n)) (count f n) ≤ suc n
-      go true h = omega arith
-      go false h = omega arith
-
   module _ {n : ℕ} (v : ℕ) (e : n ≡ count f v) where
     pub count-on : {one : ℕ} → one ≡ cond (f v) 1 0 → n + one ≡ count f (v + 1)
     unfolding count
