@@ -13,7 +13,8 @@ use Rattle.tables.proofs.Soundness.{Words, accepted-pattern, accepted-tree, acc
 use Rattle.selection.proofs.Presence.{is-present}
 use Rattle.selection.proofs.Rows.{same-bit}
 use Rattle.selection.proofs.Selecting.{selects-by-labels}
-use Rattle.plain.specs.Plain.{plainCheck, PlainRead}
+use Rattle.bare.specs.Bare.{plainCheck}
+use Rattle.plain.specs.Plain.{PlainRead}
 use Rattle.readable.specs.Readable.{readCheck}
 use Rattle.reading.specs.Reading.{Read}
 use Rattle.reading.proofs.Laws.{read-selects}

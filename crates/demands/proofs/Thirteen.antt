@@ -13,7 +13,7 @@ use Rattle.tables.specs.declared.refusal.Checked.the-variants.{Fine, Refused}
 use Rattle.tables.specs.Checks.{refuse, _then_, test, each, sizeCheck, axisCheck, patternCheck, nodeCheck, treeCheck, usedCheck, markCheck, documentCheck, outputCheck}
 use Rattle.parts.specs.Parts.{placed, countCheck, stepsCheck, nodesCheck}
 use Rattle.frames.specs.Frames.{restCheck, frameCheck, endOf}
-use Rattle.plain.specs.Plain.{plainCheck}
+use Rattle.bare.specs.Bare.{plainCheck}
 use Rattle.readable.specs.Readable.{readCheck}
 use Rattle.updating.specs.Updating as updating
 use Rattle.conflict.specs.Conflict.{Update, delete, insert}

@@ -20,7 +20,8 @@ use Rattle.selection.specs.Ways.{last, selected}
 use Rattle.selection.specs.Operations.{readRow}
 use Rattle.selection.proofs.Lists.{tab-ext}
 use Rattle.selection.proofs.Rows.{read-row, row-one}
-use Rattle.plain.specs.Plain.{plainCheck, RowAfter, PlainRead, Readable, landsOn}
+use Rattle.bare.specs.Bare.{plainCheck}
+use Rattle.plain.specs.Plain.{RowAfter, PlainRead, Readable, landsOn}
 use Rattle.plain.proofs.Landing.{lands-selected}
 
 module _ (p t : List ℕ) (bytes : ℕ) (e : plainCheck p t bytes ≡ Fine) where

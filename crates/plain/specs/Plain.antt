@@ -4,20 +4,14 @@ use mathlib.Core.Path.{_≡_}
 use mathlib.Core.Bool.{Bool, false, _&&_, _||_}
 use mathlib.Core.List.{List, [], _∷_}
 use lib.ListN.{length}
-use Rattle.tables.specs.Limits.{plainSteps, plainNodes}
 use Rattle.tables.specs.Words.{steps, nodes, parent}
 use Rattle.tables.specs.Documents.{bare}
-use Rattle.tables.specs.Checks.{_then_, patternCheck, treeCheck, outputCheck}
 use Rattle.tables.specs.declared.refusal.Checked.{Checked}
 use Rattle.tables.specs.declared.refusal.Checked.the-variants.{Fine, Refused}
 use Rattle.selection.specs.Embeddings.{Selects}
 use Rattle.selection.specs.Rows.{Row}
 use Rattle.selection.specs.Ways.{up, empty, runs, takes, stays}
-
--- the tree (table 5) 1, 2, 4, 5, then the pattern 1, 2, 3, then 7 when the row is shorter than the nodes
-unfoldable pub plainCheck : List ℕ → List ℕ → ℕ → Checked
-plainCheck p t bytes =
-    treeCheck t plainNodes 5 then patternCheck p plainSteps 1 then outputCheck (nodes t) bytes
+use Rattle.bare.specs.Bare.{plainCheck}
 
 -- the row after the answer: byte v is 1 exactly if p selects v by embeddings; a refusal changes nothing
 abbrev pub RowAfter : List ℕ → List ℕ → List ℕ → List ℕ → Checked → Type 0

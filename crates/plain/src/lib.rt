@@ -1,22 +1,16 @@
 // The plain reading: slow, and as near to document 01's words as code can be.
-use patterns::pattern;
-use sizes::output;
-use tables::limits::PLAIN_NODES;
-use tables::limits::PLAIN_STEPS;
+use bare::checked;
 use tables::refusal::Checked;
 use tables::words::first_word;
 use tables::words::second_word;
-use trees::tree;
 ghost use mathlib.Core.Path.{_≡_};
 ghost use mathlib.Core.Bool.{cond};
 ghost use mathlib.Core.List.{_++_};
 ghost use lib.ListN.{length, drop};
 ghost use Rattle.tables.specs.Words.{nodes, tag};
-ghost use Rattle.tables.specs.Limits.{plainSteps};
-ghost use Rattle.tables.specs.Checks.{_then_, patternCheck, outputCheck};
 ghost use Rattle.selection.specs.Lists.{tab};
 ghost use Rattle.selection.specs.Ways.{takes, last};
-ghost use Rattle.plain.specs.Plain.{plainCheck, PlainRead, Asked, Readable, landsOn, reachesTo};
+ghost use Rattle.plain.specs.Plain.{PlainRead, Asked, Readable, landsOn, reachesTo};
 
 // Whether the labels of step i and node v agree: a wildcard with any.
 fn agrees(p: &[u16], t: &[u16], i: usize, v: usize) -> bool
@@ -89,26 +83,6 @@ fn fill(p: &[u16], t: &[u16], row: &mut [u8])
     while v < n {
         row[v] = bit(lands(p, t, output, v));
         v += 1;
-    }
-}
-
-// The checks behind the tree's: the pattern, then the row.
-fn pattern_and_row(p: &[u16], n: usize, bytes: usize) -> Checked
-    ensures { λ r. ⌜ r ≡ (patternCheck (now (p .entry)) plainSteps 1 then outputCheck n bytes) ⌝ }
-{
-    match pattern(p, PLAIN_STEPS, 1) {
-        Checked::Fine => output(n, bytes),
-        Checked::Refused(r) => Checked::Refused(r),
-    }
-}
-
-// The checks of the plain reading, for a row of so many bytes.
-fn checked(p: &[u16], t: &[u16], bytes: usize) -> Checked
-    ensures { λ r. ⌜ r ≡ plainCheck (now (p .entry)) (now (t .entry)) bytes ⌝ }
-{
-    match tree(t, PLAIN_NODES, 5) {
-        Checked::Fine => pattern_and_row(p, t.len() / 2, bytes),
-        Checked::Refused(r) => Checked::Refused(r),
     }
 }
 

@@ -3,20 +3,18 @@ use crate::numbering::front;
 use crate::show::number;
 use crate::show::spaced;
 use crate::show::text;
-use batch::plan::Planned;
-use batch::plan::plan;
+use answers::answer::Answer;
+use sloefertand::batches::sloefertand_plan;
 
 // Words of the longest batch, with one doubled.
 const ROOM: usize = 32;
 
 // An answer as one number: the frames, or from 10,000 on the refusal's number, table and place.
-fn code(a: Planned) -> usize {
-    match a {
-        Planned::Frames(n) => n,
-        Planned::Refused(why) => {
-            why.number % 100 * 10000 + why.table % 10 * 1000 + why.place % 1000
-        }
+fn code(a: Answer) -> usize {
+    if a.refusal == 0 {
+        return a.first;
     }
+    a.refusal % 100 * 10000 + a.table % 10 * 1000 + a.place % 1000
 }
 
 // The answer for a batch, with an output of so many words.
@@ -25,7 +23,7 @@ fn answer(b: &[u16], frames: usize) -> usize {
     if 8 < frames {
         return 0;
     }
-    code(plan(b, &mut out[0..frames]))
+    code(sloefertand_plan(b, &mut out[0..frames]))
 }
 
 fn show_answer(a: usize) {

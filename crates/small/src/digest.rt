@@ -1,4 +1,5 @@
 // A digest of numbers: a difference in any of them shows.
+use answers::answer::Answer;
 use tables::words::byte;
 use tables::words::word;
 
@@ -32,7 +33,7 @@ pub(crate) fn bytes(d: u64, m: &[u8]) -> u64 {
 }
 
 // A refusal, told from a count.
-pub(crate) fn refusal(d: u64, why: tables::refusal::Refusal) -> u64 {
-    let number = why.number % 100;
-    taken(taken(taken(d, 100 + number), why.table), why.place)
+pub(crate) fn refusal(d: u64, a: Answer) -> u64 {
+    let number = a.refusal % 100;
+    taken(taken(taken(d, 100 + number), a.table), a.place)
 }

@@ -1,4 +1,4 @@
-// Everything small over the proved library: the four tables that the second program prints too. `stdout` holds what that program printed.
+// Everything small over the proved library, by the functions that other languages link: the four tables that the second program prints too. `stdout` holds what that program printed.
 mod damage;
 mod digest;
 mod numbering;

@@ -6,29 +6,18 @@ use crate::numbering::front;
 use crate::numbering::pattern;
 use crate::numbering::tree;
 use crate::show::text;
-use verdict::deep::Deeply;
-use verdict::deep::deep_delete_verdict;
-use verdict::deep::deep_insert_verdict;
-use verdict::node::Verdict;
-use verdict::node::delete_verdict;
-use verdict::node::insert_verdict;
+use answers::answer::Answer;
+use sloefertand::verdicts::sloefertand_deep_delete_verdict;
+use sloefertand::verdicts::sloefertand_deep_insert_verdict;
+use sloefertand::verdicts::sloefertand_delete_verdict;
+use sloefertand::verdicts::sloefertand_insert_verdict;
 
 // The nodes of the witness, 0 for none; 9 where it is refused.
-fn number(v: Verdict) -> usize {
-    match v {
-        Verdict::Refused(_) => 9,
-        Verdict::Clear => 0,
-        Verdict::Conflict(n) => n,
+fn nodes(a: Answer) -> usize {
+    if a.refusal == 0 {
+        return a.first;
     }
-}
-
-// Whether the deep verdict is yes.
-fn is_deep(d: Deeply) -> bool {
-    match d {
-        Deeply::Refused(_) => false,
-        Deeply::No => false,
-        Deeply::Yes => true,
-    }
+    9
 }
 
 // A digit where the deep verdict is yes exactly with a conflict, else a letter.
@@ -43,15 +32,17 @@ fn sign(n: usize, deep: bool) -> u8 {
 // The sign of a read and a delete.
 fn of_delete(r: &[u16], p: &[u16]) -> u8 {
     let mut out = [0u16; 10];
-    let n = number(delete_verdict(r, p, &mut out));
-    sign(n, is_deep(deep_delete_verdict(r, p)))
+    let n = nodes(sloefertand_delete_verdict(r, p, &mut out));
+    let deep = sloefertand_deep_delete_verdict(r, p);
+    sign(n, deep.first == 1)
 }
 
 // The sign of a read and an insert.
 fn of_insert(r: &[u16], p: &[u16], x: &[u16]) -> u8 {
     let mut out = [0u16; 10];
-    let n = number(insert_verdict(r, p, x, &mut out));
-    sign(n, is_deep(deep_insert_verdict(r, p, x)))
+    let n = nodes(sloefertand_insert_verdict(r, p, x, &mut out));
+    let deep = sloefertand_deep_insert_verdict(r, p, x);
+    sign(n, deep.first == 1)
 }
 
 // An update with no tree is a delete.

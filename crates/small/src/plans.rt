@@ -7,8 +7,7 @@ use crate::numbering::pattern;
 use crate::numbering::tree;
 use crate::show::digit;
 use crate::show::text;
-use batch::plan::Planned;
-use batch::plan::plan;
+use sloefertand::batches::sloefertand_plan;
 
 // How many batches.
 const BATCHES: usize = 2000;
@@ -123,10 +122,12 @@ fn show_word(w: u16) {
 
 // A plan's line, by an output of just its length.
 fn planned(b: &[u16], out: &mut [u16]) {
-    match plan(b, out) {
-        Planned::Refused(_) => text(b"refused"),
-        Planned::Frames(_) => show_words(out),
+    let a = sloefertand_plan(b, out);
+    if a.refusal != 0 {
+        text(b"refused\n");
+        return;
     }
+    show_words(out);
     text(b"\n");
 }
 

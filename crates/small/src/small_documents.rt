@@ -13,13 +13,10 @@ use crate::numbering::pattern;
 use crate::numbering::tree;
 use crate::show::eight;
 use crate::show::text;
-use deleting::delete;
-use documents::document;
-use inserting::insert;
-use reading::read::read;
-use tables::refusal::Checked;
-use updating::delete::Deleted;
-use updating::insert::Inserted;
+use sloefertand::checking::sloefertand_check_document;
+use sloefertand::operations::sloefertand_delete;
+use sloefertand::operations::sloefertand_insert;
+use sloefertand::operations::sloefertand_read;
 
 // Nodes with no use yet behind a document's.
 const FREE: usize = 4;
@@ -30,18 +27,20 @@ const ROOM: usize = 8;
 // The read's bytes of the used nodes.
 fn after_read(p: &[u16], rows: &[u16], marks: &[u8], used: usize, d: u64) -> u64 {
     let mut row = [0u8; ROOM];
-    match read(p, rows, marks, used, &mut row) {
-        Checked::Refused(why) => refusal(d, why),
-        Checked::Fine => { bytes(d, front_bytes(&row, used)) }
+    let a = sloefertand_read(p, rows, marks, used, &mut row);
+    if a.refusal != 0 {
+        return refusal(d, a);
     }
+    bytes(d, front_bytes(&row, used))
 }
 
 // What the delete reports, and every mark after it.
 fn deleted(p: &[u16], rows: &[u16], marks: &mut [u8], used: usize, d: u64) -> u64 {
-    match delete(p, rows, marks, used) {
-        Deleted::Refused(why) => refusal(d, why),
-        Deleted::Removed(n) => bytes(taken(d, n), marks),
+    let a = sloefertand_delete(p, rows, marks, used);
+    if a.refusal != 0 {
+        return refusal(d, a);
     }
+    bytes(taken(d, a.first), marks)
 }
 
 // The same, on marks of its own.
@@ -56,10 +55,11 @@ fn after_delete(p: &[u16], rows: &[u16], marks: [u8; ROOM], used: usize, d: u64)
 
 // What the insert reports, and every word and mark after it.
 fn inserted(p: &[u16], x: &[u16], rows: &mut [u16], marks: &mut [u8], used: usize, d: u64) -> u64 {
-    match insert(p, x, rows, marks, used) {
-        Inserted::Refused(why) => refusal(d, why),
-        Inserted::Copied(n, after) => bytes(words(taken(taken(d, n), after), rows), marks),
+    let a = sloefertand_insert(p, x, rows, marks, used);
+    if a.refusal != 0 {
+        return refusal(d, a);
     }
+    bytes(words(taken(taken(d, a.first), a.second), rows), marks)
 }
 
 // The same, on a document of its own.
@@ -202,9 +202,9 @@ fn marked(rows: [u16; 16], m: usize, used: usize) {
         9,
         9,
     ];
-    match document(&table, &marks, used) {
-        Checked::Refused(_) => {}
-        Checked::Fine => line(rows, marks, used),
+    let a = sloefertand_check_document(&table, &marks, used);
+    if a.refusal == 0 {
+        line(rows, marks, used);
     }
 }
 

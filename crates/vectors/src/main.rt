@@ -1,21 +1,23 @@
-// Run vectors: every refusal at its edge, and what each call leaves in the buffers lent to it. What they should print is in `stdout`,
-// worked out from document 01.
-mod deletes;
-mod document_checks;
-mod inserts;
-mod pattern_checks;
-mod plains;
-mod reads;
+// Run vectors: a script that fills tables, calls the library that other languages link, and shows what each call answered and left. `stdin`
+// is the script, and its first lines say how to read it; `stdout` is what it should print, worked out from document 01.
+mod calls;
+mod numbers;
+mod script;
 mod show;
-mod tables_of;
-mod tree_checks;
+
+use libc::STDIN_FILENO;
+ghost use mathlib.Core.Path.{_≡_};
+ghost use lib.ListN.{length};
+
+// Room for the script.
+fn input_room() -> [u8; 65536]
+    ensures { λ r. ⌜ length r ≡ 65536 ⌝ }
+{
+    [0; 65536]
+}
 
 fn main() {
-    pattern_checks::run();
-    tree_checks::run();
-    document_checks::run();
-    plains::run();
-    reads::run();
-    deletes::run();
-    inserts::run();
+    let mut input = input_room();
+    let n = io::read_full(STDIN_FILENO, &mut input);
+    script::run(&input[0..n]);
 }

@@ -1,130 +1,84 @@
-// A line for each case: its name, then what was answered.
-ghost use Prim.Native.Nat.{_≤_};
-ghost use lib.ListN.{length};
+// What is printed: an answer, a table, a row.
+use answers::answer::Answer;
 use libc::STDOUT_FILENO;
-use tables::refusal::Checked;
-use tables::refusal::Refusal;
-use updating::delete::Deleted;
-use updating::insert::Inserted;
+use tables::words::byte;
+use tables::words::word;
 
 pub(crate) fn text(s: &[u8]) {
     io::write_all(STDOUT_FILENO, s);
 }
 
-pub(crate) fn number(n: usize) {
+// A space and a number.
+fn number(n: usize) {
+    text(b" ");
     io::print_decimal(STDOUT_FILENO, n as u64);
 }
 
-// A refusal as number, table, place.
-pub(crate) fn refusal(r: Refusal) {
-    number(r.number);
-    text(b" table ");
-    number(r.table);
-    text(b" place ");
-    number(r.place);
-}
-
-pub(crate) fn checked(name: &[u8], c: Checked) {
-    text(name);
-    match c {
-        Checked::Fine => text(b": fine"),
-        Checked::Refused(r) => {
-            text(b": ");
-            refusal(r);
-        }
+// The first so many values of an answer.
+fn values(a: Answer, count: usize) {
+    if count == 0 {
+        return;
     }
-    text(b"\n");
-}
-
-pub(crate) fn deleted(name: &[u8], d: Deleted) {
-    text(name);
-    match d {
-        Deleted::Removed(n) => {
-            text(b": removed ");
-            number(n);
-        }
-        Deleted::Refused(r) => {
-            text(b": ");
-            refusal(r);
-        }
+    number(a.first);
+    if count == 1 {
+        return;
     }
-    text(b"\n");
-}
-
-pub(crate) fn inserted(name: &[u8], i: Inserted) {
-    text(name);
-    match i {
-        Inserted::Copied(n, used) => {
-            text(b": copies ");
-            number(n);
-            text(b" used ");
-            number(used);
-        }
-        Inserted::Refused(r) => {
-            text(b": ");
-            refusal(r);
-        }
+    number(a.second);
+    if count == 2 {
+        return;
     }
-    text(b"\n");
+    number(a.third);
+    number(a.fourth);
 }
 
-fn byte_at(bytes: &[u8], i: usize) {
-    text(b" ");
-    number(tables::words::byte(bytes, i));
+// The bytes of a row that are in use.
+pub(crate) fn front(m: &[u8], n: usize) -> &[u8] {
+    if m.len() < n {
+        return m;
+    }
+    &m[0..n]
 }
 
-fn all_bytes(bytes: &[u8]) {
+// What a call answered: its refusal, or its values.
+pub(crate) fn answer(a: Answer, count: usize) {
+    if a.refusal == 0 {
+        values(a, count);
+        return;
+    }
+    text(b" refused");
+    number(a.refusal);
+    text(b" table");
+    number(a.table);
+    text(b" place");
+    number(a.place);
+}
+
+fn word_at(t: &[u16], i: usize) {
+    number(word(t, i));
+}
+
+// The words of a table.
+pub(crate) fn table(name: &[u8], t: &[u16]) {
+    text(name);
     let mut i = 0;
-    while i < bytes.len() {
-        byte_at(bytes, i);
+    while i < t.len() {
+        word_at(t, i);
         i += 1;
     }
-}
-
-fn word_at(words: &[u16], i: usize) {
-    text(b" ");
-    number(tables::words::word(words, i));
-}
-
-fn all_words(words: &[u16]) {
-    let mut i = 0;
-    while i < words.len() {
-        word_at(words, i);
-        i += 1;
-    }
-}
-
-// The words of a table, a space before each.
-pub(crate) fn table(words: &[u16]) {
-    text(b"  words");
-    all_words(words);
     text(b"\n");
 }
 
-// How many bytes of a row are 1.
-fn ones(bytes: &[u8]) -> usize
-    ensures { λ r. ⌜ r ≤ length (now (bytes .entry)) ⌝ }
-{
-    let mut n = 0;
+fn byte_at(m: &[u8], i: usize) {
+    number(byte(m, i));
+}
+
+// The bytes of a row.
+pub(crate) fn row(name: &[u8], m: &[u8]) {
+    text(name);
     let mut i = 0;
-    while i < bytes.len() {
-        if bytes[i] == 1 {
-            n += 1;
-        }
+    while i < m.len() {
+        byte_at(m, i);
         i += 1;
     }
-    n
-}
-
-pub(crate) fn counted(bytes: &[u8]) {
-    text(b"  ones ");
-    number(ones(bytes));
-    text(b"\n");
-}
-
-// The bytes of a row, a space before each.
-pub(crate) fn row(bytes: &[u8]) {
-    text(b"  row");
-    all_bytes(bytes);
     text(b"\n");
 }

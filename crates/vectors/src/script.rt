@@ -1,0 +1,352 @@
+// A script, line by line. Tables r, p, x, t have words, tables m, y bytes; u and v are numbers.
+use crate::calls;
+use crate::numbers::bytes;
+use crate::numbers::number;
+use crate::numbers::put_byte;
+use crate::numbers::words;
+use crate::show;
+use check::same;
+ghost use mathlib.Core.Path.{_≡_};
+ghost use lib.ListN.{length};
+
+// How much of each table is in use, and the two numbers.
+struct Sizes {
+    r: usize,
+    p: usize,
+    x: usize,
+    t: usize,
+    m: usize,
+    y: usize,
+    u: usize,
+    v: usize,
+}
+
+// Room for a table of words, and for one of bytes.
+fn word_room() -> [u16; 16640]
+    ensures { λ r. ⌜ length r ≡ 16640 ⌝ }
+{
+    [0; 16640]
+}
+
+fn byte_room() -> [u8; 69632]
+    ensures { λ r. ⌜ length r ≡ 69632 ⌝ }
+{
+    [0; 69632]
+}
+
+// The words of a table that are in use.
+fn front(t: &[u16], n: usize) -> &[u16] {
+    if t.len() < n {
+        return t;
+    }
+    &t[0..n]
+}
+
+// Whether a line begins with this byte.
+fn begins(line: &[u8], byte: u8) -> bool {
+    if line.len() == 0 {
+        return false;
+    }
+    line[0] == byte
+}
+
+// What stands behind a line's first byte.
+fn rest(line: &[u8]) -> &[u8] {
+    if line.len() == 0 {
+        return line;
+    }
+    &line[1..line.len()]
+}
+
+// Fills a table of words from a line that begins with its letter; how much of it is in use then.
+fn filled(line: &[u8], letter: u8, t: &mut [u16], n: usize) -> usize {
+    if begins(line, letter) {
+        return words(line, t);
+    }
+    n
+}
+
+// The same of a table of bytes.
+fn filled_bytes(line: &[u8], letter: u8, m: &mut [u8], n: usize) -> usize {
+    if begins(line, letter) {
+        return bytes(line, m);
+    }
+    n
+}
+
+// The same of a number.
+fn said(line: &[u8], letter: u8, n: usize) -> usize {
+    if begins(line, letter) {
+        return number(line);
+    }
+    n
+}
+
+// Bytes behind those in use; how many are in use then.
+fn append(m: &mut [u8], n: usize, s: &[u8]) -> usize {
+    let mut end = n;
+    let mut i = 0;
+    while i < s.len() {
+        end = put_byte(m, end, s[i]);
+        i += 1;
+    }
+    end
+}
+
+// Text behind the bytes in use: a line and its line feed, or a line without it.
+fn written(line: &[u8], m: &mut [u8], n: usize) -> usize {
+    if begins(line, 43) {
+        let end = append(m, n, rest(line));
+        return put_byte(m, end, 10);
+    }
+    if begins(line, 45) {
+        return append(m, n, rest(line));
+    }
+    n
+}
+
+// Shows a table that a call can change.
+fn reveal(line: &[u8], t: &[u16], m: &[u8], y: &[u8], s: Sizes) {
+    if same(line, b"=t") {
+        show::table(b"  t", front(t, s.t));
+        return;
+    }
+    if same(line, b"=m") {
+        show::row(b"  m", show::front(m, s.m));
+        return;
+    }
+    if same(line, b"=y") {
+        show::row(b"  y", show::front(y, s.y));
+    }
+}
+
+// A check, a read, a verdict or a plan.
+fn ask(
+    name: &[u8],
+    r: &[u16],
+    p: &[u16],
+    x: &[u16],
+    t: &mut [u16],
+    m: &[u8],
+    y: &mut [u8],
+    u: usize,
+    v: usize,
+) {
+    calls::check(name, r, x, t, m, u, v);
+    calls::read(name, r, x, t, m, u, y);
+    calls::judge(name, r, p, x, t);
+    calls::plan(name, x, t, u, v);
+}
+
+// A line, a printed plan or an update; the number u after it.
+fn tell(
+    name: &[u8],
+    p: &[u16],
+    x: &[u16],
+    t: &mut [u16],
+    m: &mut [u8],
+    y: &mut [u8],
+    u: usize,
+) -> usize {
+    calls::spell(name, x, t, m, u, y);
+    calls::print(name, m, y);
+    calls::delete(name, p, t, m, u);
+    calls::insert(name, p, x, t, m, u)
+}
+
+// The call of this name on the tables as far as they are in use; the number u after it.
+fn call(
+    name: &[u8],
+    r: &[u16],
+    p: &[u16],
+    x: &[u16],
+    t: &mut [u16],
+    m: &mut [u8],
+    y: &mut [u8],
+    u: usize,
+    v: usize,
+) -> usize {
+    show::text(b"  ");
+    show::text(name);
+    ask(name, r, p, x, t, m, y, u, v);
+    let used = tell(name, p, x, t, m, y, u);
+    show::text(b"\n");
+    used
+}
+
+// The same where a line asks for it.
+fn called(
+    line: &[u8],
+    r: &[u16],
+    p: &[u16],
+    x: &[u16],
+    t: &mut [u16],
+    m: &mut [u8],
+    y: &mut [u8],
+    s: Sizes,
+) -> usize {
+    let words = s.t;
+    let marks = s.m;
+    let bytes = s.y;
+    if !begins(line, 33) {
+        return s.u;
+    }
+    if t.len() < words {
+        return s.u;
+    }
+    if m.len() < marks {
+        return s.u;
+    }
+    if y.len() < bytes {
+        return s.u;
+    }
+    call(
+        rest(line),
+        front(r, s.r),
+        front(p, s.p),
+        front(x, s.x),
+        &mut t[0..words],
+        &mut m[0..marks],
+        &mut y[0..bytes],
+        s.u,
+        s.v,
+    )
+}
+
+// A heading, printed as it stands.
+fn heading(line: &[u8]) {
+    if begins(line, 58) {
+        show::text(rest(line));
+        show::text(b"\n");
+    }
+}
+
+// Fills the table of the letter that a line begins with.
+fn refilled(
+    line: &[u8],
+    r: &mut [u16],
+    p: &mut [u16],
+    x: &mut [u16],
+    t: &mut [u16],
+    m: &mut [u8],
+    y: &mut [u8],
+    s: Sizes,
+    u: usize,
+) -> Sizes {
+    let n = written(line, m, s.m);
+    Sizes {
+        r: filled(line, 114, r, s.r),
+        p: filled(line, 112, p, s.p),
+        x: filled(line, 120, x, s.x),
+        t: filled(line, 116, t, s.t),
+        m: filled_bytes(line, 109, m, n),
+        y: filled_bytes(line, 121, y, s.y),
+        u: said(line, 117, u),
+        v: said(line, 118, s.v),
+    }
+}
+
+// What a line asks for. No two of these begin with the same byte.
+fn obeyed(
+    line: &[u8],
+    r: &mut [u16],
+    p: &mut [u16],
+    x: &mut [u16],
+    t: &mut [u16],
+    m: &mut [u8],
+    y: &mut [u8],
+    s: Sizes,
+) -> Sizes {
+    heading(line);
+    let u = called(line, r, p, x, t, m, y, s);
+    reveal(line, t, m, y, s);
+    refilled(line, r, p, x, t, m, y, s, u)
+}
+
+// The part of a text from one place to another.
+fn between(text: &[u8], from: usize, to: usize) -> &[u8] {
+    if text.len() < to {
+        return &text[0..0];
+    }
+    if to < from {
+        return &text[0..0];
+    }
+    &text[from..to]
+}
+
+// Whether a line ends at this place.
+fn ends(input: &[u8], i: usize) -> bool {
+    if i < input.len() {
+        return input[i] == 10;
+    }
+    false
+}
+
+// Where the next line begins, if one ends here.
+fn start(input: &[u8], from: usize, i: usize) -> usize {
+    if i < input.len() {
+        if input[i] == 10 {
+            return i + 1;
+        }
+    }
+    from
+}
+
+// What the line that ends here asks for.
+fn obeyed_at(
+    input: &[u8],
+    from: usize,
+    i: usize,
+    r: &mut [u16],
+    p: &mut [u16],
+    x: &mut [u16],
+    t: &mut [u16],
+    m: &mut [u8],
+    y: &mut [u8],
+    s: Sizes,
+) -> Sizes {
+    if ends(input, i) {
+        return obeyed(between(input, from, i), r, p, x, t, m, y, s);
+    }
+    s
+}
+
+// Every line that ends in a line feed.
+fn each(
+    input: &[u8],
+    r: &mut [u16],
+    p: &mut [u16],
+    x: &mut [u16],
+    t: &mut [u16],
+    m: &mut [u8],
+    y: &mut [u8],
+) {
+    let mut s = Sizes {
+        r: 0,
+        p: 0,
+        x: 0,
+        t: 0,
+        m: 0,
+        y: 0,
+        u: 0,
+        v: 0,
+    };
+    let mut from = 0;
+    let mut i = 0;
+    while i < input.len() {
+        let at = i;
+        i += 1;
+        s = obeyed_at(input, from, at, r, p, x, t, m, y, s);
+        from = start(input, from, at);
+    }
+}
+
+pub(crate) fn run(input: &[u8]) {
+    let mut r = word_room();
+    let mut p = word_room();
+    let mut x = word_room();
+    let mut t = word_room();
+    let mut m = byte_room();
+    let mut y = byte_room();
+    each(input, &mut r, &mut p, &mut x, &mut t, &mut m, &mut y);
+}
