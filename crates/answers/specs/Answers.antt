@@ -1,27 +1,7 @@
--- The numbers that stand for each answer: a refusal as its number, table and place, else the values that each operation gives.
+-- The numbers that go out: a refusal as its number, table and place, else values.
 use Prim.Native.Nat.{ℕ}
 use mathlib.Core.Path.{_≡_}
 use Rattle.tables.specs.declared.refusal.Refusal.{Refusal}
-use Rattle.tables.specs.declared.refusal.Checked.{Checked}
-use Rattle.tables.specs.declared.refusal.Checked.the-variants as checked
-use Rattle.updating.specs.declared.delete.Deleted.{Deleted}
-use Rattle.updating.specs.declared.delete.Deleted.the-variants as deleted
-use Rattle.updating.specs.declared.insert.Inserted.{Inserted}
-use Rattle.updating.specs.declared.insert.Inserted.the-variants as inserted
-use Rattle.verdict.specs.declared.node.Verdict.{Verdict}
-use Rattle.verdict.specs.declared.node.Verdict.the-variants as verdict
-use Rattle.verdict.specs.declared.deep.Deeply.{Deeply}
-use Rattle.verdict.specs.declared.deep.Deeply.the-variants as deeply
-use Rattle.walker.specs.declared.Answer.{Answer as Stepped}
-use Rattle.walker.specs.declared.Answer.the-variants as stepped
-use Rattle.batch.specs.declared.plan.Planned.{Planned}
-use Rattle.batch.specs.declared.plan.Planned.the-variants as planned
-use Rattle.lines.specs.declared.Parsed.{Parsed}
-use Rattle.lines.specs.declared.Parsed.the-variants as parsed
-use Rattle.lines.specs.declared.Spelled.{Spelled}
-use Rattle.lines.specs.declared.Spelled.the-variants as spelled
-use Rattle.printer.specs.declared.Printed.{Printed}
-use Rattle.printer.specs.declared.Printed.the-variants as printed
 use Rattle.answers.specs.declared.answer.Answer.{Answer}
 
 -- a refusal: its number, the table at fault and the place, and no values
@@ -40,59 +20,6 @@ refusing r =
 -- values, and no refusal
 abbrev pub giving : ℕ → ℕ → ℕ → ℕ → Answer
 giving a b c d = record { refusal = 0; table = 0; place = 0; first = a; second = b; third = c; fourth = d }
-
--- a check or a read has no value
-abbrev pub ofChecked : Checked → Answer
-ofChecked checked.Fine = giving 0 0 0 0
-ofChecked (checked.Refused r) = refusing r
-
--- a delete: the nodes newly removed
-abbrev pub ofDeleted : Deleted → Answer
-ofDeleted (deleted.Removed n) = giving n 0 0 0
-ofDeleted (deleted.Refused r) = refusing r
-
--- an insert: the copies, and the new used count
-abbrev pub ofInserted : Inserted → Answer
-ofInserted (inserted.Copied copies used) = giving copies used 0 0
-ofInserted (inserted.Refused r) = refusing r
-
--- a verdict: the witness's node count, 0 for none
-abbrev pub ofVerdict : Verdict → Answer
-ofVerdict verdict.Clear = giving 0 0 0 0
-ofVerdict (verdict.Conflict n) = giving n 0 0 0
-ofVerdict (verdict.Refused r) = refusing r
-
--- a deep verdict: 1 for yes, 0 for no
-abbrev pub ofDeeply : Deeply → Answer
-ofDeeply deeply.No = giving 0 0 0 0
-ofDeeply deeply.Yes = giving 1 0 0 0
-ofDeeply (deeply.Refused r) = refusing r
-
--- the walker: the frame's kind, where it ends, how many steps and nodes it has; kind 0 where none is left
-abbrev pub ofStepped : Stepped → Answer
-ofStepped stepped.Over = giving 0 0 0 0
-ofStepped (stepped.Frame f) = giving (f .kind) (f .next) (f .steps) (f .nodes)
-ofStepped (stepped.Refused r) = refusing r
-
--- a plan: the frames
-abbrev pub ofPlanned : Planned → Answer
-ofPlanned (planned.Frames n) = giving n 0 0 0
-ofPlanned (planned.Refused r) = refusing r
-
--- a line that is read: its words
-abbrev pub ofParsed : Parsed → Answer
-ofParsed (parsed.Words n) = giving n 0 0 0
-ofParsed (parsed.Refused r) = refusing r
-
--- a line that is written: its digits
-abbrev pub ofSpelled : Spelled → Answer
-ofSpelled (spelled.Digits n) = giving n 0 0 0
-ofSpelled (spelled.Refused r) = refusing r
-
--- a plan that is printed: its bytes
-abbrev pub ofPrinted : Printed → Answer
-ofPrinted (printed.Bytes n) = giving n 0 0 0
-ofPrinted (printed.Refused r) = refusing r
 
 -- the operation's promise holds of some answer, and these are its numbers
 pub record Told {E : Type 0} (numbers : E → Answer) (promise : E → Type 0) (a : Answer) : Type 0 where

@@ -1,3 +1,2 @@
-// One form of answer for every operation: the numbers of each.
+// One form of answer for every operation.
 pub mod answer;
-pub mod numbers;

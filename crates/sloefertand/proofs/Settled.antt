@@ -21,7 +21,8 @@ use Rattle.lines.specs.Lines.{ReadAs, WrittenAs}
 use Rattle.lines.proofs.Promise.{read-one as line-one, write-one}
 use Rattle.printer.specs.Printer.{PrintedAs}
 use Rattle.printer.proofs.Settled.{printed-one}
-use Rattle.answers.specs.Answers.{Told, ofChecked, ofDeleted, ofInserted, ofVerdict, ofDeeply, ofPlanned, ofParsed, ofSpelled, ofPrinted}
+use Rattle.answers.specs.Answers.{Told}
+use Rattle.numbers.specs.Numbers.{ofChecked, ofDeleted, ofInserted, ofVerdict, ofDeeply, ofPlanned, ofParsed, ofSpelled, ofPrinted}
 use Rattle.answers.specs.declared.answer.Answer.{Answer}
 
 -- where the promises settle the answer and something more by its numbers, so do the numbers

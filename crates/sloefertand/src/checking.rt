@@ -1,13 +1,13 @@
 // The checks of patterns, trees and documents. None has a value.
 use answers::answer::Answer;
-use answers::numbers::checked;
 use documents::document;
+use numbers::checked;
 use patterns::pattern;
 use trees::tree;
 ghost use mathlib.Core.Path.{_≡_};
 ghost use Rattle.tables.specs.Documents.{doc};
 ghost use Rattle.tables.specs.Checks.{patternCheck, treeCheck, documentCheck};
-ghost use Rattle.answers.specs.Answers.{ofChecked};
+ghost use Rattle.numbers.specs.Numbers.{ofChecked};
 
 // A pattern of at most `limit` steps: refusals 1, 2, 3, at this table.
 #[no_mangle]

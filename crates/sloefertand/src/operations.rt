@@ -1,17 +1,18 @@
 // Reading and updating a document.
 use answers::answer::Answer;
-use answers::numbers::checked;
-use answers::numbers::deleted;
-use answers::numbers::inserted;
 use deleting::delete;
 use inserting::insert;
+use numbers::checked;
+use numbers::deleted;
+use numbers::inserted;
 use plain::plain_reading;
 use reading::read::read;
 ghost use Rattle.tables.specs.Documents.{doc};
 ghost use Rattle.reading.specs.Reading.{Read};
 ghost use Rattle.plain.specs.Plain.{PlainRead};
 ghost use Rattle.updating.specs.Updating.{Delete, Insert};
-ghost use Rattle.answers.specs.Answers.{Told, ofChecked, ofDeleted, ofInserted};
+ghost use Rattle.answers.specs.Answers.{Told};
+ghost use Rattle.numbers.specs.Numbers.{ofChecked, ofDeleted, ofInserted};
 
 // Read: one byte a used node, 1 if the pattern selects it, else 0. No value.
 #[no_mangle]

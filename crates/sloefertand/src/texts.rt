@@ -1,14 +1,15 @@
 // Lines of hexadecimal digits, and the printed plan.
 use answers::answer::Answer;
-use answers::numbers::parsed;
-use answers::numbers::printed;
-use answers::numbers::spelled;
 use lines::read_line;
 use lines::write_line;
+use numbers::parsed;
+use numbers::printed;
+use numbers::spelled;
 use printer::print;
 ghost use Rattle.lines.specs.Lines.{ReadAs, WrittenAs};
 ghost use Rattle.printer.specs.Printer.{PrintedAs};
-ghost use Rattle.answers.specs.Answers.{Told, ofParsed, ofSpelled, ofPrinted};
+ghost use Rattle.answers.specs.Answers.{Told};
+ghost use Rattle.numbers.specs.Numbers.{ofParsed, ofSpelled, ofPrinted};
 
 // From a line's bytes to its words; the line's number is its place in a refusal. First: the words.
 #[no_mangle]

@@ -1,14 +1,15 @@
 // Whether a read r and an update at p conflict.
 use answers::answer::Answer;
-use answers::numbers::deeply;
-use answers::numbers::judged;
+use numbers::deeply;
+use numbers::judged;
 use verdict::deep::deep_delete_verdict;
 use verdict::deep::deep_insert_verdict;
 use verdict::node::delete_verdict;
 use verdict::node::insert_verdict;
 ghost use Rattle.conflict.specs.Conflict.{delete, insert};
 ghost use Rattle.verdict.specs.Promise.{NodeVerdict, DeepVerdict};
-ghost use Rattle.answers.specs.Answers.{Told, ofVerdict, ofDeeply};
+ghost use Rattle.answers.specs.Answers.{Told};
+ghost use Rattle.numbers.specs.Numbers.{ofVerdict, ofDeeply};
 
 // A read and a delete. First: the nodes of the smallest witness, which is written; 0 for no conflict.
 #[no_mangle]

@@ -1,6 +1,6 @@
 -- The numbers of the document's check.
 use borrow.Author.Needs.{needs}
-use Rattle.answers.specs.Answers.{ofChecked}
+use Rattle.numbers.specs.Numbers.{ofChecked}
 use Rattle.answers.proofs.Shown.{of-promise}
 use Rattle.sloefertand.proofs.checking.sloefertand_check_document.Statement.{statement}
 use Rattle.sloefertand.proofs.checking.sloefertand_check_document.Tie as tie
