@@ -17,6 +17,7 @@ use Rattle.selection.specs.Operations.{hits, deleted}
 use Rattle.selection.proofs.Runs.{hits-run}
 use Rattle.selection.proofs.Deleting.{deleted-selects, deleted-sound}
 use Rattle.conflict.specs.Conflict.{delete, Differs, Witness, Conflict, Smallest}
+use Rattle.conflict.specs.Meeting.{fewestOf}
 use Rattle.conflict.specs.Crossing.{deleteWay, chain}
 use Rattle.conflict.proofs.Steps.{Within}
 use Rattle.conflict.proofs.Meeting.{Labels, Common}
@@ -30,20 +31,23 @@ abbrev pub Cut : List ℕ → List ℕ → List ℕ → Type 0
 Cut r p = Common (run r false (last r)) (run p true (last p))
 
 module _ (r p : List ℕ) where
+  -- as many labels as the fewest on which the read's last state, which may not stay, and the delete's, which may, are met
+  deleteWay-length : length (deleteWay r p) ≡ fewestOf r false p true (last r) (last p)
+  unfolding deleteWay
+  deleteWay-length = length-meetingOf r false p true (last r) (last p)
+
   -- deleteWay is the shortest of these: one where it is not empty, and no longer than any other
   pub deleteWay-cut : 0 < length (deleteWay r p) → Cut r p (deleteWay r p)
   unfolding deleteWay
-  deleteWay-cut h = meetingOf-common r false p true (last r) (last p) (rw (length-meetingOf r false p true (last r) (last p)) at h)
+  deleteWay-cut h = meetingOf-common r false p true (last r) (last p) (rw deleteWay-length at h)
 
   pub deleteWay-within : (w : List ℕ) → Cut r p w → Within (length (deleteWay r p)) (length w)
-  unfolding deleteWay
-  deleteWay-within w c = rw (length-meetingOf r false p true (last r) (last p)) (fewestOf-within r false p true (last r) (last p) w c)
+  deleteWay-within w c = rw deleteWay-length (fewestOf-within r false p true (last r) (last p) w c)
 
   -- it has fewer labels than both patterns have steps together
   pub deleteWay-most : 0 < steps r → 0 < steps p → length (deleteWay r p) < steps r + steps p
-  unfolding deleteWay
   deleteWay-most h k =
-      rw (length-meetingOf r false p true (last r) (last p)) (omega (arith, fewestOf-most r false p true (last r) (last p), suc-pred-eq-of-pos h, suc-pred-eq-of-pos k))
+      rw deleteWay-length (omega (arith, fewestOf-most r false p true (last r) (last p), suc-pred-eq-of-pos h, suc-pred-eq-of-pos k))
 
   -- each one that a node may have
   pub deleteWay-labels : ((k : ℕ) → label r k < wordLimit) → ((k : ℕ) → label p k < wordLimit) → Labels (deleteWay r p)

@@ -1,6 +1,6 @@
 -- A run over a way as a relation, and that `runs` computes it; hits is the run whose last state may stay.
 use Prim.Native.Nat.{ℕ, zero, suc, pred, _<_, _≤_}
-use mathlib.Core.Path.{_≡_, refl, sym, _∙_}
+use mathlib.Core.Path.{_≡_, refl, sym, _∙_, ap}
 use mathlib.Core.Bool.{Bool, true, false, _&&_, _||_, cond, false≢true, or-true, or-false}
 use mathlib.Core.List.{List, [], _∷_}
 use mathlib.Core.Logic.{_⊎_, inl, inr}
@@ -9,7 +9,7 @@ use native.Mathlib.Omega.{arith}
 use lib.Dec.{eqb, ltb}
 use borrow.Author.Tests.{lt-ltb, le-ltb, eq-eqb, eqb-true}
 use Rattle.tables.specs.Words.{steps, axis, label}
-use Rattle.selection.specs.Ways.{empty, runs, run, takes, stays, last}
+use Rattle.selection.specs.Ways.{empty, runs, run, takes, stays, last, sel}
 use Rattle.selection.specs.Operations.{hits}
 
 pub data Run (take : ℕ → ℕ → Bool) (stay : ℕ → Bool) : ℕ → List ℕ → Type 0 where
@@ -129,5 +129,5 @@ pub hits-run : (p : List ℕ) (w : List ℕ) → hits p w ≡ run p true (last p
 unfolding hits run runs
 hits-run p [] = refl
 hits-run p (l ∷ w) =
-    rw (hits-run p w)
-    (runs-last (takes p) (stays p false) (stays p true) (last p) (stays-last p false) (stays-last p true) (λ j h. stays-same p j (suc-lt-of-lt-pred h)) l w)
+    ap (λ b. sel p (l ∷ w) || b) (hits-run p w) ∙
+    runs-last (takes p) (stays p false) (stays p true) (last p) (stays-last p false) (stays-last p true) (λ j h. stays-same p j (suc-lt-of-lt-pred h)) l w
