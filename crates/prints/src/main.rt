@@ -1,8 +1,8 @@
 // The plan printer on inputs at its edges: what it prints for each. What they should print is in `stdout`, worked out from document 01.
 use libc::STDOUT_FILENO;
-use lines::write_line;
 use printer::Printed;
 use printer::print;
+use spelling::write_line;
 ghost use mathlib.Core.Path.{_≡_};
 ghost use lib.ListN.{length};
 

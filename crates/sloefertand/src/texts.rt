@@ -4,9 +4,10 @@ use answers::numbers::parsed;
 use answers::numbers::printed;
 use answers::numbers::spelled;
 use lines::read_line;
-use lines::write_line;
 use printer::print;
-ghost use Rattle.lines.specs.Lines.{ReadAs, WrittenAs};
+use spelling::write_line;
+ghost use Rattle.lines.specs.Lines.{ReadAs};
+ghost use Rattle.spelling.specs.Spelling.{WrittenAs};
 ghost use Rattle.printer.specs.Printer.{PrintedAs};
 ghost use Rattle.answers.specs.Answers.{Told, ofParsed, ofSpelled, ofPrinted};
 
