@@ -33,9 +33,10 @@ use Rattle.order.specs.Running.{running, SameSets}
 use Rattle.batches.specs.Batches.{batchOf}
 use Rattle.batch.specs.Batch.{Plan, SlotIs}
 use Rattle.batch.specs.declared.plan.Planned.the-variants as planned
-use Rattle.lines.specs.Lines.{ReadAs, WrittenAs}
+use Rattle.lines.specs.Lines.{ReadAs}
 use Rattle.lines.specs.declared.Parsed.the-variants as parsed
-use Rattle.lines.specs.declared.Spelled.the-variants as spelled
+use Rattle.spelling.specs.Spelling.{WrittenAs}
+use Rattle.spelling.specs.declared.Spelled.the-variants as spelled
 use Rattle.printer.specs.Printer.{Lines, stopped, PrintedAs}
 use Rattle.printer.specs.declared.Printed.{Printed}
 use Rattle.printer.specs.declared.Printed.the-variants as printed

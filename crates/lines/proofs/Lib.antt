@@ -1,4 +1,3 @@
 -- Laws of lines.
-pub mod Digits
+pub mod Branches
 pub mod Promise
-pub mod Returning

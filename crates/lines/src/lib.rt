@@ -1,29 +1,23 @@
-// Lines: from a line's bytes to a frame's words, and back.
+// Lines: from a line's bytes to a frame's words.
 use sizes::output;
 use tables::limits::DIGIT_LIMIT;
 use tables::refusal::Checked;
 use tables::refusal::Refusal;
 use tables::refusal::refused;
 use tables::words::byte;
-use tables::words::word;
 ghost use mathlib.Core.Path.{_≡_};
 ghost use mathlib.Core.List.{_++_};
-ghost use Prim.Native.Nat.{_+_, _-_, _*_, _/_, _%_, _^_, _<_, _≤_};
+ghost use Prim.Native.Nat.{_+_, _*_, _/_, _<_, _≤_};
 ghost use lib.ListN.{length, getD, drop};
 ghost use Rattle.tables.specs.Checks.{_then_, each, outputCheck};
 ghost use Rattle.selection.specs.Lists.{tab};
-ghost use Rattle.lines.specs.Lines.{digitOf, byteOf, characterCheck, lineCheck, wordAt, byteAt, Digits, ReadAs, WrittenAs};
+ghost use Rattle.digits.specs.Digits.{digitOf, wordAt, Digits};
+ghost use Rattle.lines.specs.Lines.{characterCheck, lineCheck, ReadAs};
 
 // What reading a line answers: how many words it has.
 pub enum Parsed {
     Refused(Refusal),
     Words(usize),
-}
-
-// What writing words answers: how many digits they take.
-pub enum Spelled {
-    Refused(Refusal),
-    Digits(usize),
 }
 
 // The value of a digit's byte, 16 for any other byte.
@@ -43,17 +37,6 @@ fn digit(c: usize) -> usize
         return c - 55;
     }
     16
-}
-
-// The byte of a digit.
-fn digit_byte(d: usize) -> u8
-    requires { ⌜ d < 16 ⌝ }
-    ensures { λ r. ⌜ r ≡ byteOf d ⌝ }
-{
-    if d <= 9 {
-        return (d + 48) as u8;
-    }
-    (d + 55) as u8
 }
 
 // The first of a line's characters that is no digit.
@@ -152,48 +135,5 @@ pub fn read_line(s: &[u8], line: usize, words: &mut [u16]) -> Parsed
             Parsed::Words(s.len() / 4)
         }
         Checked::Refused(r) => Parsed::Refused(r),
-    }
-}
-
-// Digit j of a word, the most significant first.
-fn digit_of(w: usize, j: usize) -> usize
-    ensures { λ r. ⌜ r ≡ w / 16 ^ (3 - j) % 16 ⌝ }
-{
-    if j == 0 {
-        return w / 4096 % 16;
-    }
-    if j == 1 {
-        return w / 256 % 16;
-    }
-    if j == 2 {
-        return w / 16 % 16;
-    }
-    w % 16
-}
-
-// The line of these words, at the front.
-fn fill_digits(ws: &[u16], out: &mut [u8])
-    requires { ⌜ 4 * length (now ws) ≤ length (now out) ⌝ }
-    ensures { λ _. ⌜ now (out .exit) ≡ tab (byteAt (now (ws .entry))) (4 * length (now (ws .entry))) ++ drop (4 * length (now (ws .entry))) (now (out .entry)) ⌝ }
-{
-    let n = 4 * ws.len();
-    let mut i = 0;
-    while i < n {
-        out[i] = digit_byte(digit_of(word(ws, i / 4), i % 4));
-        i += 1;
-    }
-}
-
-// From words to the bytes of their line.
-pub fn write_line(ws: &[u16], out: &mut [u8]) -> Spelled
-    ensures { λ r. ⌜ WrittenAs (now (ws .entry)) (now (out .entry)) (now (out .exit)) r ⌝ }
-{
-    let n = 4 * ws.len();
-    match output(n, out.len()) {
-        Checked::Fine => {
-            fill_digits(ws, out);
-            Spelled::Digits(n)
-        }
-        Checked::Refused(r) => Spelled::Refused(r),
     }
 }

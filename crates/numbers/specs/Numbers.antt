@@ -15,8 +15,8 @@ use Rattle.batch.specs.declared.plan.Planned.{Planned}
 use Rattle.batch.specs.declared.plan.Planned.the-variants as planned
 use Rattle.lines.specs.declared.Parsed.{Parsed}
 use Rattle.lines.specs.declared.Parsed.the-variants as parsed
-use Rattle.lines.specs.declared.Spelled.{Spelled}
-use Rattle.lines.specs.declared.Spelled.the-variants as spelled
+use Rattle.spelling.specs.declared.Spelled.{Spelled}
+use Rattle.spelling.specs.declared.Spelled.the-variants as spelled
 use Rattle.printer.specs.declared.Printed.{Printed}
 use Rattle.printer.specs.declared.Printed.the-variants as printed
 use Rattle.answers.specs.declared.answer.Answer.{Answer}

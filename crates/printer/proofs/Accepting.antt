@@ -13,7 +13,7 @@ use Rattle.tables.specs.Checks.{_then_, outputCheck}
 use Rattle.tables.specs.declared.refusal.Refusal.{Refusal}
 use Rattle.tables.specs.declared.refusal.Checked.the-variants.{Fine}
 use Rattle.frames.specs.Frames.{kind, endOf, frameCheck}
-use Rattle.lines.specs.Lines.{wordsOf}
+use Rattle.digits.specs.Digits.{wordsOf}
 use Rattle.batches.specs.Batches.{framesFrom, batchOf, checkFrom, batchCheck, planCheck}
 use Rattle.batches.proofs.Accepted.{steps-room}
 use Rattle.batches.proofs.Frames.{frames-on, frames-off, check-on, check-off}

@@ -18,7 +18,8 @@ use Rattle.parts.specs.Parts.{part}
 use Rattle.frames.specs.Frames.{kind, endOf, frameCheck}
 use Rattle.batches.proofs.Accepted.{frame-below}
 use Rattle.frames.proofs.Ending.{end-behind}
-use Rattle.lines.specs.Lines.{lineCheck, wordsOf}
+use Rattle.digits.specs.Digits.{wordsOf}
+use Rattle.lines.specs.Lines.{lineCheck}
 use Rattle.printer.specs.Printer.{lineEnd, lineAt, takeCheck, Outcome, stopped, taken, Lines, none, bad, good}
 use Rattle.printer.specs.Reading.{Roomy, TakenAs, RanAs}
 use Rattle.printer.specs.declared.Taken.{Taken}

@@ -14,7 +14,8 @@ use Rattle.tables.specs.declared.refusal.Checked.{Checked}
 use Rattle.tables.specs.declared.refusal.Checked.the-variants.{Fine, Refused}
 use Rattle.parts.specs.Parts.{part, count, placed, countCheck, stepsCheck, nodesCheck}
 use Rattle.frames.specs.Frames.{kind, treeAt, kindRight, restCheck, frameCheck, endOf}
-use Rattle.lines.specs.Lines.{digitOf, characterCheck, lineCheck, wordsOf}
+use Rattle.digits.specs.Digits.{digitOf, wordsOf}
+use Rattle.lines.specs.Lines.{characterCheck, lineCheck}
 use Rattle.printer.specs.Printer.{takeCheck}
 
 -- a check whose refusal, if any, has a number of the table

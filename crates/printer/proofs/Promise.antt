@@ -4,16 +4,14 @@ use mathlib.Core.Path.{_≡_, refl, sym, _∙_, ap}
 use mathlib.Core.List.{List, [], _++_}
 use native.Mathlib.Nat.{sub-zero}
 use native.Mathlib.Omega.{arith}
-use lib.Dec.{leb}
 use lib.ListN.{length, getD, take, drop}
 use lib.Seq.{length-take-le}
-use borrow.Author.Tests.{leb-true}
 use Rattle.tables.specs.Limits.{frameLimit, wordLimit}
-use Rattle.tables.specs.Checks.{test, refuse, outputCheck}
+use Rattle.tables.specs.Checks.{outputCheck}
 use Rattle.tables.specs.declared.refusal.Refusal.{Refusal}
 use Rattle.tables.specs.declared.refusal.Checked.{Checked}
 use Rattle.tables.specs.declared.refusal.Checked.the-variants.{Fine, Refused}
-use Rattle.tables.proofs.Accepted.{held}
+use Rattle.tables.proofs.Accepted.{output-room}
 use Rattle.batches.specs.Batches.{planCheck}
 use Rattle.batch.specs.Batch.{Plan}
 use Rattle.batch.specs.declared.plan.Planned.{Planned}
@@ -28,18 +26,13 @@ use Rattle.printer.specs.declared.Printed.{Printed}
 use Rattle.printer.specs.declared.Printed.the-variants as printed
 use Rattle.printer.proofs.Accepting.{sofar-none, lines-taken, lines-stopped, sofar-planned}
 
--- what an output that is long enough says
-room-of : (wanted have : ℕ) → outputCheck wanted have ≡ Fine → wanted ≤ have
-unfolding outputCheck
-room-of wanted have e = leb-true wanted have (held (leb wanted have) _ e)
-
 -- a text, the bytes that it takes, and the room for them
 module _ (text before : List ℕ) {wanted : ℕ} (long : length text ≡ wanted) {got : Checked} (e : got ≡ outputCheck wanted (length before)) where
   pub text-refused : {r : Refusal} → got ≡ Refused r → Answered text before before (printed.Refused r)
   text-refused told = (rw long (sym e ∙ told), refl)
 
   pub text-room : got ≡ Fine → wanted ≤ length before
-  text-room told = room-of wanted (length before) (sym e ∙ told)
+  text-room told = output-room wanted (length before) (sym e ∙ told)
 
   pub text-bytes : got ≡ Fine → {after : List ℕ} → after ≡ text ++ drop wanted before → Answered text before after (printed.Bytes wanted)
   text-bytes told a = (rw long (sym e ∙ told), sym long, a)
@@ -57,7 +50,7 @@ plan-is b kinds before after long fit (planned.Frames n) e = record { words = e 
 pub bytes-within : (s before after : List ℕ) (answer : Printed) → PrintedAs s before after answer → {n : ℕ} → answer ≡ printed.Bytes n → n ≤ length before
 bytes-within s before after answer e {n} told =
     let here : Answered (e .text) before after (printed.Bytes n) = rw told at (e .answered) in
-    omega (arith, here .1, room-of (length (e .text)) (length before) (here .0))
+    omega (arith, here .1, output-room (length (e .text)) (length before) (here .0))
 
 -- from how the lines end to what is printed
 module _ (s batch kinds : List ℕ) (got : Ran) (e : RanAs s batch kinds got) where

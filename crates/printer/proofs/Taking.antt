@@ -9,19 +9,20 @@ use native.Mathlib.Omega.{arith}
 use lib.Dec.{eqb, ltb, leb}
 use lib.ListN.{length, getD, take, drop, length-append, length-take, length-drop}
 use lib.Seq.{take-at, length-take-le}
-use borrow.Author.Tests.{leb-true, le-leb}
 use Rattle.tables.specs.Limits.{batchLimit, digitLimit}
 use Rattle.tables.specs.Checks.{_then_, test, refuse, each, outputCheck}
 use Rattle.tables.specs.declared.refusal.Refusal.{Refusal}
 use Rattle.tables.specs.declared.refusal.Checked.{Checked}
 use Rattle.tables.specs.declared.refusal.Checked.the-variants.{Fine, Refused}
-use Rattle.tables.proofs.Accepted.{held, then-first, then-second}
-use Rattle.selection.proofs.Runs.{both}
+use Rattle.tables.proofs.Accepted.{then-first}
+use Rattle.sizes.proofs.Branches.{output-long}
 use Rattle.selection.proofs.Lists.{length-behind}
-use Rattle.lines.specs.Lines.{digitOf, characterCheck, lineCheck, wordsOf, ReadAs}
+use Rattle.digits.specs.Digits.{digitOf, wordsOf}
+use Rattle.digits.proofs.Returning.{length-wordsOf}
+use Rattle.lines.specs.Lines.{characterCheck, lineCheck, ReadAs}
 use Rattle.lines.specs.declared.Parsed.{Parsed}
 use Rattle.lines.specs.declared.Parsed.the-variants as parsed
-use Rattle.lines.proofs.Returning.{length-wordsOf}
+use Rattle.lines.proofs.Promise.{line-short}
 use Rattle.printer.specs.Printer.{takeCheck}
 use Rattle.printer.specs.Reading.{Roomy, TakenAs}
 use Rattle.printer.specs.declared.Taken.{Taken}
@@ -54,15 +55,6 @@ line-only l line =
     (only-test r (ltb 0 (length l) && (eqb (length l % 4) 0 && leb (length l) digitLimit)))
     (only-each r (characterCheck l line) (λ i. only-test r (leb (digitOf (getD l i 0)) 15)) 0 (length l))
 
--- an accepted line has at most 2,572 digits
-pub line-short : (l : List ℕ) (line : ℕ) → lineCheck l line ≡ Fine → length l ≤ digitLimit
-unfolding lineCheck
-line-short l line e =
-    both (ltb 0 (length l)) (eqb (length l % 4) 0 && leb (length l) digitLimit)
-    (held (ltb 0 (length l) && (eqb (length l % 4) 0 && leb (length l) digitLimit)) _
-    (then-first (test (ltb 0 (length l) && (eqb (length l % 4) 0 && leb (length l) digitLimit)) (refuse 13 6 line)) _ e))
-    (λ some rest. both (eqb (length l % 4) 0) (leb (length l) digitLimit) rest (λ h k. leb-true (length l) digitLimit k))
-
 never : {A : Type 0} (r : Refusal) → Fine ≡ Refused r → A
 never r e = let z : _≡_ {A = ℕ} 0 1 = cc in absurd (omega arith)
 
@@ -77,10 +69,9 @@ module _ (l : List ℕ) (n used : ℕ) (batch : List ℕ) (roomy : Roomy used ba
 
   -- the room is enough for every accepted line
   room-fine : lineCheck l (n + 1) ≡ Fine → outputCheck (length l / 4) (length (take (length batch - used) (drop used batch))) ≡ Fine
-  unfolding outputCheck
   room-fine e =
       let short = line-short l (n + 1) e in
-      rw (length-take, length-drop, le-leb (length l / 4) (min (length batch - used) (length batch - used)) (omega (arith, short, roomy .within, roomy .room)))
+      rw (length-take, length-drop) (sym (output-long (length l / 4) (min (length batch - used) (length batch - used)) (omega (arith, short, roomy .within, roomy .room))))
 
   module _ (after : List ℕ) where
     -- a line that is not read is malformed

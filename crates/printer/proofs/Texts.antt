@@ -4,33 +4,26 @@ use mathlib.Core.Path.{_≡_, refl, sym, _∙_, ap}
 use mathlib.Core.List.{List, [], _∷_, _++_, append-assoc, append-nil}
 use native.Mathlib.Numerals.{add-one}
 use native.Mathlib.Omega.{arith}
-use lib.Dec.{leb}
 use lib.ListN.{length, getD, take, drop, set, length-append, length-drop, length-take}
 use lib.Seq.{drop-cons, set-at, take-all, drop-drop, drop-length, append-snoc, take-at, drop-at}
-use borrow.Author.Tests.{le-leb}
-use Rattle.tables.specs.Checks.{test, refuse, outputCheck}
-use Rattle.tables.specs.declared.refusal.Checked.the-variants.{Fine, Refused}
-use Rattle.tables.proofs.Accepted.{held}
+use Rattle.sizes.proofs.Branches.{output-long}
 use Rattle.selection.proofs.Lists.{length-behind}
-use Rattle.lines.specs.Lines.{lineOf, WrittenAs}
-use Rattle.lines.specs.declared.Spelled.{Spelled}
-use Rattle.lines.specs.declared.Spelled.the-variants as spelled
-use Rattle.lines.proofs.Returning.{length-lineOf}
+use Rattle.digits.specs.Digits.{lineOf}
+use Rattle.digits.proofs.Returning.{length-lineOf}
+use Rattle.spelling.specs.Spelling.{WrittenAs}
+use Rattle.spelling.specs.declared.Spelled.{Spelled}
+use Rattle.spelling.specs.declared.Spelled.the-variants as spelled
 use Rattle.printer.specs.Printer.{threeOf, planText}
 
 pub length-threeOf : (a b c : ℕ) → length (threeOf a b c) ≡ 13
 unfolding threeOf
 length-threeOf a b c = rw (length-append, length-lineOf)
 
-room-for : (wanted have : ℕ) → wanted ≤ have → outputCheck wanted have ≡ Fine
-unfolding outputCheck
-room-for wanted have h = rw (le-leb wanted have h)
-
 -- where there is room, three words are written
 module _ (a b c : ℕ) (before : List ℕ) (room : 13 ≤ length before) (after : List ℕ) where
   pub three-digits : (r : Spelled) → WrittenAs (a ∷ b ∷ c ∷ []) before after r → after ≡ lineOf (a ∷ b ∷ c ∷ []) ++ drop 12 before
   three-digits (spelled.Refused r) e =
-      let fine = room-for 12 (length before) (omega (arith, room)) in
+      let fine = output-long 12 (length before) (omega (arith, room)) in
       let why = e .0 in
       let z : _≡_ {A = ℕ} 0 1 = cc in
       absurd (omega arith)

@@ -16,7 +16,8 @@ use Rattle.parts.specs.Parts.{part}
 use Rattle.frames.specs.Frames.{kind, endOf, frameCheck}
 use Rattle.batches.specs.Batches.{batchOf}
 use Rattle.batch.specs.Batch.{WordIs}
-use Rattle.lines.specs.Lines.{lineCheck, wordsOf, lineOf}
+use Rattle.digits.specs.Digits.{wordsOf, lineOf}
+use Rattle.lines.specs.Lines.{lineCheck}
 use Rattle.printer.specs.declared.Printed.{Printed}
 use Rattle.printer.specs.declared.Printed.the-variants.{Refused, Bytes}
 

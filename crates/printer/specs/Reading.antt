@@ -5,7 +5,7 @@ use mathlib.Core.List.{List, [], _++_}
 use lib.ListN.{length, take}
 use Rattle.tables.specs.Limits.{batchLimit, digitLimit, frameLimit}
 use Rattle.tables.specs.declared.refusal.Checked.the-variants as checked
-use Rattle.lines.specs.Lines.{wordsOf}
+use Rattle.digits.specs.Digits.{wordsOf}
 use Rattle.batches.specs.Batches.{planCheck}
 use Rattle.printer.specs.Printer.{takeCheck, stopped, taken, Lines, PlanIs, planText, Answered}
 use Rattle.printer.specs.declared.Printed.{Printed}

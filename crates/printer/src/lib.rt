@@ -2,8 +2,8 @@
 use batch::plan::plan;
 use lines::Parsed;
 use lines::read_line;
-use lines::write_line;
 use sizes::output;
+use spelling::write_line;
 use tables::limits::BATCH_LIMIT;
 use tables::limits::DIGIT_LIMIT;
 use tables::limits::FRAME_LIMIT;

@@ -17,8 +17,10 @@ use Rattle.verdict.specs.Promise.{NodeVerdict, witnessNodes, DeepVerdict}
 use Rattle.verdict.proofs.Promise.{verdict-one, deep-one}
 use Rattle.batch.specs.Batch.{Plan}
 use Rattle.batch.proofs.Laws.{plan-one}
-use Rattle.lines.specs.Lines.{ReadAs, WrittenAs}
-use Rattle.lines.proofs.Promise.{read-one as line-one, write-one}
+use Rattle.lines.specs.Lines.{ReadAs}
+use Rattle.lines.proofs.Promise.{read-one as line-one}
+use Rattle.spelling.specs.Spelling.{WrittenAs}
+use Rattle.spelling.proofs.Promise.{write-one}
 use Rattle.printer.specs.Printer.{PrintedAs}
 use Rattle.printer.proofs.Settled.{printed-one}
 use Rattle.answers.specs.Answers.{Told}

@@ -1,12 +1,13 @@
 // Lines of hexadecimal digits, and the printed plan.
 use answers::answer::Answer;
 use lines::read_line;
-use lines::write_line;
 use numbers::parsed;
 use numbers::printed;
 use numbers::spelled;
 use printer::print;
-ghost use Rattle.lines.specs.Lines.{ReadAs, WrittenAs};
+use spelling::write_line;
+ghost use Rattle.lines.specs.Lines.{ReadAs};
+ghost use Rattle.spelling.specs.Spelling.{WrittenAs};
 ghost use Rattle.printer.specs.Printer.{PrintedAs};
 ghost use Rattle.answers.specs.Answers.{Told};
 ghost use Rattle.numbers.specs.Numbers.{ofParsed, ofSpelled, ofPrinted};

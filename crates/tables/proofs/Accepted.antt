@@ -1,13 +1,15 @@
 -- What a fine check says: each test that it made holds.
-use Prim.Native.Nat.{ℕ, zero, suc, _+_, _<_}
+use Prim.Native.Nat.{ℕ, zero, suc, _+_, _<_, _≤_}
 use mathlib.Core.Path.{_≡_, refl}
 use mathlib.Core.Bool.{Bool, true, false}
 use native.Mathlib.Nat.{add-zero}
 use native.Mathlib.Omega.{arith}
+use lib.Dec.{leb}
+use borrow.Author.Tests.{leb-true}
 use Rattle.tables.specs.declared.refusal.Refusal.{Refusal}
 use Rattle.tables.specs.declared.refusal.Checked.{Checked}
 use Rattle.tables.specs.declared.refusal.Checked.the-variants.{Fine, Refused}
-use Rattle.tables.specs.Checks.{_then_, test, each}
+use Rattle.tables.specs.Checks.{_then_, test, each, outputCheck}
 
 never : {A : Type 0} (r : Refusal) → Refused r ≡ Fine → A
 never r e = let z : _≡_ {A = ℕ} 0 1 = cc in absurd (omega arith)
@@ -48,3 +50,8 @@ each-all check v (suc k) all =
     (λ i h.
     let same : suc v + i ≡ v + suc i = omega arith in
     rw same (all (suc i) (omega arith))))
+
+-- an output that is accepted is long enough
+pub output-room : (wanted have : ℕ) → outputCheck wanted have ≡ Fine → wanted ≤ have
+unfolding outputCheck
+output-room wanted have e = leb-true wanted have (held (leb wanted have) _ e)

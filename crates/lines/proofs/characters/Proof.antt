@@ -5,7 +5,7 @@ use borrow.Author.Needs.{needs}
 use Rattle.tables.proofs.Each.{each-start, each-on, each-off, each-end}
 use Rattle.lines.specs.Lines.{characterCheck}
 use Rattle.tables.specs.Checks.{each}
-use Rattle.lines.proofs.Digits.{character-fine, character-other}
+use Rattle.lines.proofs.Branches.{character-fine, character-other}
 use Rattle.lines.proofs.characters.Statement.{statement}
 use Rattle.lines.proofs.characters.Tie as tie
 

@@ -1,6 +1,6 @@
 -- The branches of the code are those of the definition.
 use borrow.Author.Needs.{needs}
-use Rattle.lines.proofs.Digits.{digit-low, digit-number, digit-between, digit-letter, digit-high}
+use Rattle.digits.proofs.Digits.{digit-low, digit-number, digit-between, digit-letter, digit-high}
 use Rattle.lines.proofs.digit.Statement.{statement}
 use Rattle.lines.proofs.digit.Tie as tie
 

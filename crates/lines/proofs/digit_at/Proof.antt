@@ -2,7 +2,7 @@
 use mathlib.Core.Path.{ap, _∙_}
 use native.Mathlib.Omega.{arith}
 use borrow.Author.Needs.{needs}
-use Rattle.lines.specs.Lines.{digitOf}
+use Rattle.digits.specs.Digits.{digitOf}
 use Rattle.lines.proofs.digit_at.Statement.{statement}
 use Rattle.lines.proofs.digit_at.Tie as tie
 

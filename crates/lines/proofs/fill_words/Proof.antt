@@ -7,7 +7,7 @@ use native.Mathlib.Omega.{arith}
 use borrow.Author.Needs.{needs}
 use Rattle.selection.specs.Lists.{tab}
 use Rattle.selection.proofs.Filling.{row-start, row-more, row-within, row-long, row-end}
-use Rattle.lines.specs.Lines.{wordAt}
+use Rattle.digits.specs.Digits.{wordAt}
 use Rattle.lines.proofs.fill_words.Statement.{statement}
 use Rattle.lines.proofs.fill_words.Tie as tie
 

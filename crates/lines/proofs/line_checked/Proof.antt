@@ -1,6 +1,6 @@
 -- The branches of the code are those of the definition.
 use borrow.Author.Needs.{needs}
-use Rattle.lines.proofs.Digits.{line-none, line-odd, line-long, line-rest}
+use Rattle.lines.proofs.Branches.{line-none, line-odd, line-long, line-rest}
 use Rattle.lines.proofs.line_checked.Statement.{statement}
 use Rattle.lines.proofs.line_checked.Tie as tie
 

@@ -1,6 +1,6 @@
 -- The four digits, joined.
 use borrow.Author.Needs.{needs}
-use Rattle.lines.proofs.Digits.{word-joined}
+use Rattle.lines.proofs.Branches.{word-joined}
 use Rattle.lines.proofs.word_of.Statement.{statement}
 use Rattle.lines.proofs.word_of.Tie as tie
 

@@ -10,10 +10,8 @@ use lib.ListN.{length, getD}
 use lib.Seq.{ext-getD}
 use Rattle.tables.specs.Limits.{wordLimit}
 use Rattle.selection.proofs.Lists.{length-tab, getD-tab}
-use Rattle.lines.specs.Lines.{digitOf, wordAt, wordsOf, byteAt, lineOf, lineCheck, Digits}
-use Rattle.tables.specs.declared.refusal.Checked.the-variants.{Fine}
-use Rattle.lines.proofs.Digits.{digit-byte, byte-digit}
-use Rattle.lines.proofs.Promise.{line-digits, line-whole}
+use Rattle.digits.specs.Digits.{digitOf, wordAt, wordsOf, byteAt, lineOf, Digits}
+use Rattle.digits.proofs.Digits.{digit-byte, byte-digit}
 
 pub length-lineOf : (ws : List ℕ) → length (lineOf ws) ≡ 4 * length ws
 unfolding lineOf
@@ -115,7 +113,3 @@ module _ (s : List ℕ) (digits : Digits s) (whole : length s % 4 ≡ 0) where
   line-returns =
       let long : length (lineOf (wordsOf s)) ≡ length s = length-lineOf (wordsOf s) ∙ rw (length-wordsOf s) (omega arith) in
       ext-getD 0 (lineOf (wordsOf s)) s long (λ i h. byte-back i (rw long at h))
-
--- so is every line that the check accepts
-pub accepted-returns : (s : List ℕ) (line : ℕ) → lineCheck s line ≡ Fine → lineOf (wordsOf s) ≡ s
-accepted-returns s line e = line-returns s (line-digits s line e) (line-whole s line e)

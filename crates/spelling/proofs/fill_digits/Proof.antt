@@ -7,10 +7,10 @@ use native.Mathlib.Omega.{arith}
 use borrow.Author.Needs.{needs}
 use Rattle.selection.specs.Lists.{tab}
 use Rattle.selection.proofs.Filling.{row-start, row-more, row-within, row-long, row-end}
-use Rattle.lines.specs.Lines.{byteAt}
-use Rattle.lines.proofs.Digits.{byte-of-word}
-use Rattle.lines.proofs.fill_digits.Statement.{statement}
-use Rattle.lines.proofs.fill_digits.Tie as tie
+use Rattle.digits.specs.Digits.{byteAt}
+use Rattle.spelling.proofs.Branches.{byte-of-word}
+use Rattle.spelling.proofs.fill_digits.Statement.{statement}
+use Rattle.spelling.proofs.fill_digits.Tie as tie
 
 abbrev Inv-loop : tie.InvT-loop
 Inv-loop ws out₀ n i₀ out i = (i ≤ n) × (out ≡ tab (byteAt ws) i ++ drop i out₀)

@@ -1,8 +1,8 @@
 -- The room first; then the line is written, or nothing changes.
 use borrow.Author.Needs.{needs}
-use Rattle.lines.proofs.Promise.{writable, written-as, write-refused}
-use Rattle.lines.proofs.write_line.Statement.{statement}
-use Rattle.lines.proofs.write_line.Tie as tie
+use Rattle.spelling.proofs.Promise.{writable, written-as, write-refused}
+use Rattle.spelling.proofs.write_line.Statement.{statement}
+use Rattle.spelling.proofs.write_line.Tie as tie
 
 pub write-line-spec : {M : Type 1} → statement M
 write-line-spec =

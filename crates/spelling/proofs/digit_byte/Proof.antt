@@ -1,8 +1,8 @@
 -- The branches of the code are those of the definition.
 use borrow.Author.Needs.{needs}
-use Rattle.lines.proofs.Digits.{byte-number, byte-letter}
-use Rattle.lines.proofs.digit_byte.Statement.{statement}
-use Rattle.lines.proofs.digit_byte.Tie as tie
+use Rattle.digits.proofs.Digits.{byte-number, byte-letter}
+use Rattle.spelling.proofs.digit_byte.Statement.{statement}
+use Rattle.spelling.proofs.digit_byte.Tie as tie
 
 pub digit-byte-spec : {M : Type 1} → statement M
 digit-byte-spec =

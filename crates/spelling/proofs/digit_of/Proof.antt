@@ -1,7 +1,7 @@
 -- The branches of the code are those of the definition.
-use Rattle.lines.proofs.Digits.{digit-first, digit-second, digit-third, digit-last}
-use Rattle.lines.proofs.digit_of.Statement.{statement}
-use Rattle.lines.proofs.digit_of.Tie as tie
+use Rattle.spelling.proofs.Branches.{digit-first, digit-second, digit-third, digit-last}
+use Rattle.spelling.proofs.digit_of.Statement.{statement}
+use Rattle.spelling.proofs.digit_of.Tie as tie
 
 pub digit-of-spec : {M : Type 1} → statement M
 digit-of-spec =

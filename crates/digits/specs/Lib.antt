@@ -1,0 +1,2 @@
+-- What a reader must believe of digits.
+pub mod Digits

@@ -1,0 +1,3 @@
+-- Laws of written lines.
+pub mod Branches
+pub mod Promise

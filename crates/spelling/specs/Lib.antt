@@ -1,0 +1,2 @@
+-- What a reader must believe of written lines.
+pub mod Spelling
