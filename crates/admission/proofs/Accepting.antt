@@ -7,15 +7,15 @@ use lib.Dec.{ltb, leb}
 use lib.ListN.{length}
 use borrow.Author.Tests.{lt-ltb, le-ltb, le-leb, lt-leb, leb-true, ltb-true}
 use Rattle.tables.specs.Limits.{stepLimit, treeLimit}
-use Rattle.tables.specs.Words.{steps, nodes}
+use Rattle.tables.specs.Words.{steps}
 use Rattle.tables.specs.Patterns.{Pattern}
 use Rattle.tables.specs.declared.refusal.Checked.{Checked}
 use Rattle.tables.specs.declared.refusal.Checked.the-variants.{Fine}
-use Rattle.tables.specs.Checks.{refuse, test, each, sizeCheck, patternCheck, nodeCheck, treeCheck}
+use Rattle.tables.specs.Checks.{refuse, test, patternCheck, treeCheck}
 use Rattle.tables.proofs.Accepted.{held, then-first, then-second}
-use Rattle.tables.proofs.Soundness.{accepted-pattern, accepted-steps, accepted-nodes, accepted-some, node-falls}
+use Rattle.tables.proofs.Soundness.{accepted-pattern, accepted-steps}
 use Rattle.admission.specs.Order.{needed, roomCheck, patternsCheck, deepDeleteCheck, deepInsertCheck, deleteCheck, insertCheck}
-use Rattle.admission.specs.Admitted.{Bounded, Fitting}
+use Rattle.admission.specs.Admitted.{Bounded}
 
 module _ {answer : Checked} (n : ℕ) where
   pub step-one : answer ≡ refuse 6 2 0 → n ≤ 1 → answer ≡ test (ltb 1 n) (refuse 6 2 0)
@@ -45,7 +45,7 @@ room-fine r p words e = leb-true (needed r p) words (held (leb (needed r p) word
 
 -- accepted patterns are patterns, and bounded
 module _ (r p : List ℕ) (e : patternsCheck r p ≡ Fine) where
-  read-fine : patternCheck r stepLimit 1 ≡ Fine
+  pub read-fine : patternCheck r stepLimit 1 ≡ Fine
   unfolding patternsCheck
   read-fine = then-first (patternCheck r stepLimit 1) (patternCheck p stepLimit 2) e
 
@@ -92,18 +92,6 @@ module _ (r p : List ℕ) where
     pub insert-tree : treeCheck x treeLimit 3 ≡ Fine
     unfolding deepInsertCheck
     insert-tree = then-second (patternsCheck r p) (treeCheck x treeLimit 3) e
-
-    -- so is an accepted tree, and its parents fall
-    pub insert-fitting : Fitting r x
-    unfolding treeCheck
-    insert-fitting =
-        record {
-          some = insert-bounded .reads-some;
-          reads = insert-bounded .reads;
-          root = accepted-some x treeLimit 3 insert-tree;
-          most = accepted-nodes x treeLimit 3 insert-tree;
-          falls = node-falls x 3 (nodes x) (then-second (sizeCheck (length x) treeLimit 3) (each (nodeCheck x 3) 0 (nodes x)) insert-tree);
-        }
 
   -- the same with an output, which then has room
   module _ (words : ℕ) where

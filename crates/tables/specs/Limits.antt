@@ -1,9 +1,13 @@
 -- The limits of document 01, each named once.
-use Prim.Native.Nat.{ℕ}
+use Prim.Native.Nat.{ℕ, _+_, _*_}
 
 -- steps of a pattern
 abbrev pub stepLimit : ℕ
 stepLimit = 64
+
+-- where column j of row i stands, in a table whose rows have a column for each step
+abbrev pub place : ℕ → ℕ → ℕ
+place i j = stepLimit * i + j
 
 -- nodes of an inserted tree
 abbrev pub treeLimit : ℕ

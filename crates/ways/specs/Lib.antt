@@ -1,6 +1,3 @@
--- What a reader must believe of shortest ways is Ways; the others are how they are found, and need not be believed.
+-- What a reader must believe of shortest ways is Ways; Marked is what their inside holds.
 pub mod Ways
-pub mod Cells
-pub mod Tracing
-pub mod Climbing
-pub mod Writing
+pub mod Marked

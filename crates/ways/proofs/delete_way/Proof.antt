@@ -1,6 +1,5 @@
 -- The check, and where it is fine the way.
 use mathlib.Core.Path.{sym, _∙_}
-use Rattle.admission.proofs.Accepting.{delete-bounded, delete-deep, delete-room}
 use Rattle.ways.proofs.Allowed.{allowed-on, allowed-off}
 use borrow.Author.Needs.{needs}
 use Rattle.ways.proofs.delete_way.Statement.{statement}
@@ -12,7 +11,7 @@ delete-way-spec =
     (tie.spec
     (λ c κs. search needs)
     (λ c. search needs)
-    (λ c κs. let fine = sym (c .before .before .before .delete-check .ensures) ∙ c .before .enum-told .given .1 in (delete-bounded _ _ (delete-deep _ _ _ fine), delete-room _ _ _ fine))
+    (λ c κs. sym (c .before .before .before .delete-check .ensures) ∙ c .before .enum-told .given .1)
     (λ c. search needs)
     (λ c. search needs)
     (λ c. allowed-on (c .before .before .before .before .before .before .delete-check .ensures) (c .before .before .before .before .enum-told .given .1) (c .before .before .shortest-delete .ensures))

@@ -1,5 +1,7 @@
 -- The way of the last states, with everything below the update's last counted too.
-use Rattle.ways.proofs.Writing.{delete-traced, delete-written}
+use mathlib.Core.Path.{refl}
+use native.Mathlib.Omega.{arith}
+use Rattle.ways.proofs.Marked.{delete-bounds, last-inside, delete-written}
 use borrow.Author.Needs.{needs}
 use Rattle.ways.proofs.shortest_delete.Statement.{statement}
 use Rattle.ways.proofs.shortest_delete.Tie as tie
@@ -8,14 +10,10 @@ pub shortest-delete-spec : {M : Type 1} → statement M
 shortest-delete-spec =
     tie.close
     (tie.spec
-    (λ c κs. search needs)
-    (λ c κs. search needs)
-    (λ c κs. search needs)
+    (λ c. omega (arith, delete-bounds _ _ _ (c .before .before .before .pre) .reads-some))
+    (λ c. omega (arith, delete-bounds _ _ _ (c .before .before .before .pre) .updates-some))
+    (λ c κs. last-inside (delete-bounds _ _ _ (c .before .before .before .pre)) refl)
     (λ c. search needs)
     (λ c κs. search needs)
-    (λ c. search needs)
-    (λ c κs. search needs)
-    (λ c. search needs)
-    (λ c κs. search delete-traced)
     (λ c. search needs)
     (λ c. search delete-written))

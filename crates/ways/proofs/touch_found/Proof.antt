@@ -1,5 +1,8 @@
 -- The step before the update's last, at or below a node that is read.
-use Rattle.ways.proofs.Writing.{touch-one, touch-more}
+use mathlib.Core.Path.{refl}
+use native.Mathlib.Omega.{arith}
+use Rattle.admission.proofs.Accepting.{patterns-bounded}
+use Rattle.ways.proofs.Marked.{last-inside, touch-one, touch-more}
 use borrow.Author.Needs.{needs}
 use Rattle.ways.proofs.touch_found.Statement.{statement}
 use Rattle.ways.proofs.touch_found.Tie as tie
@@ -9,10 +12,9 @@ touch-found-spec =
     tie.close
     (tie.spec
     (λ c. search touch-one)
-    (λ c κs. search needs)
-    (λ c κs. search needs)
+    (λ c. omega (arith, patterns-bounded _ _ (c .before .before .before .pre) .reads-some))
+    (λ c κs. last-inside (patterns-bounded _ _ (c .before .before .before .pre)) refl)
     (λ c. search needs)
-    (λ c κs. search needs)
     (λ c. search needs)
     (λ c. search needs)
     (λ c κs. search needs)

@@ -1,6 +1,5 @@
 -- The check, and where it is fine the test.
 use mathlib.Core.Path.{sym, _∙_}
-use Rattle.admission.proofs.Accepting.{patterns-bounded}
 use Rattle.ways.proofs.Allowed.{test-on, test-off}
 use borrow.Author.Needs.{needs}
 use Rattle.ways.proofs.touching.Statement.{statement}
@@ -12,7 +11,7 @@ touching-spec =
     (tie.spec
     (λ c κs. search needs)
     (λ c. search needs)
-    (λ c κs. patterns-bounded _ _ (sym (c .before .before .patterns-check .ensures) ∙ c .enum-told .given .1))
+    (λ c κs. sym (c .before .before .patterns-check .ensures) ∙ c .enum-told .given .1)
     (λ c. search needs)
     (λ c. test-on (c .before .before .before .patterns-check .ensures) _ (c .before .enum-told .given .1) (c .touch-found .ensures))
     (λ c. test-off (c .before .before .patterns-check .ensures) _ (c .enum-told2 .given .1)))

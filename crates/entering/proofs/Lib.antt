@@ -1,0 +1,3 @@
+-- Laws of entering an inserted tree.
+pub mod Climbing
+pub mod States

@@ -1,0 +1,85 @@
+-- The branches of the code, held against those of the definitions.
+use Prim.Native.Nat.{ℕ, suc, _+_, _*_, _/_, _<_, _≤_}
+use mathlib.Core.Path.{_≡_}
+use mathlib.Core.Bool.{Bool, true, false, not, or-true}
+use mathlib.Core.List.{List}
+use native.Mathlib.Numerals.{add-one}
+use native.Mathlib.Omega.{arith}
+use lib.Dec.{eqb, leb}
+use lib.ListN.{length}
+use borrow.Author.Tests.{eq-eqb, ne-eqb, lt-ltb, le-ltb, not-true, not-false}
+use Rattle.tables.specs.Words.{axis}
+use Rattle.selection.specs.Ways.{stays}
+use Rattle.conflict.specs.Meeting.{agree, landing, shared, sooner, least, onward}
+
+module _ (x y : ℕ) where
+  pub agree-first : x ≡ 0 → true ≡ agree x y
+  unfolding agree
+  agree-first e = rw (eq-eqb x 0 e)
+
+  pub agree-second : y ≡ 0 → true ≡ agree x y
+  unfolding agree
+  agree-second e = rw (eq-eqb y 0 e, or-true)
+
+  pub agree-names : (x ≡ 0 → ⊥) → (y ≡ 0 → ⊥) → eqb x y ≡ agree x y
+  unfolding agree
+  agree-names e d = rw (ne-eqb x 0 e, ne-eqb y 0 d)
+
+pub landing-any : (x : ℕ) → x ≡ 0 → 1 ≡ landing x
+unfolding landing
+landing-any x e = rw (eq-eqb x 0 e)
+
+pub landing-name : (x : ℕ) → (x ≡ 0 → ⊥) → x ≡ landing x
+unfolding landing
+landing-name x e = rw (ne-eqb x 0 e)
+
+pub shared-any : {r : ℕ} (x y : ℕ) → r ≡ landing y → x ≡ 0 → r ≡ shared x y
+unfolding shared
+shared-any x y q e = rw (eq-eqb x 0 e, q)
+
+pub shared-name : (x y : ℕ) → (x ≡ 0 → ⊥) → x ≡ shared x y
+unfolding shared
+shared-name x y e = rw (ne-eqb x 0 e)
+
+module _ (p : List ℕ) (below : Bool) (i : ℕ) where
+  pub stays-end : length p / 2 ≤ i + 1 → below ≡ stays p below i
+  stays-end h = rw (le-ltb (suc i) (length p / 2) (omega arith))
+
+  pub stays-past : length p / 2 ≤ i → below ≡ stays p below i
+  stays-past h = stays-end (omega arith)
+
+  pub stays-axis : {a : ℕ} → a ≡ axis p (i + 1) → i + 1 < length p / 2 → eqb a 2 ≡ stays p below i
+  stays-axis e h = rw (lt-ltb (suc i) (length p / 2) (omega arith), e, add-one)
+
+module _ (m n : ℕ) where
+  pub sooner-none : m ≡ 0 → false ≡ sooner m n
+  unfolding sooner
+  sooner-none e = rw (eq-eqb m 0 e)
+
+  pub sooner-alone : (m ≡ 0 → ⊥) → n ≡ 0 → true ≡ sooner m n
+  unfolding sooner
+  sooner-alone e d = rw (ne-eqb m 0 e, eq-eqb n 0 d)
+
+  pub sooner-both : (m ≡ 0 → ⊥) → (n ≡ 0 → ⊥) → leb m n ≡ sooner m n
+  unfolding sooner
+  sooner-both e d = rw (ne-eqb m 0 e, ne-eqb n 0 d)
+
+  pub least-first : {t : Bool} → t ≡ sooner m n → t ≡ true → m ≡ least m n
+  unfolding least
+  least-first e h = rw (← e, h)
+
+  pub least-second : {t : Bool} → t ≡ sooner m n → t ≡ false → n ≡ least m n
+  unfolding least
+  least-second e h = rw (← e, h)
+
+pub onward-barred : (may : Bool) (n : ℕ) → not may ≡ true → 0 ≡ onward may n
+unfolding onward
+onward-barred may n h = rw (not-true may h)
+
+pub onward-none : (may : Bool) (n : ℕ) → not may ≡ false → n ≡ 0 → 0 ≡ onward may n
+unfolding onward
+onward-none may n h e = rw (not-false may h, eq-eqb n 0 e)
+
+pub onward-more : (may : Bool) (n : ℕ) → not may ≡ false → (n ≡ 0 → ⊥) → n + 1 ≡ onward may n
+unfolding onward
+onward-more may n h e = rw (not-false may h, ne-eqb n 0 e)

@@ -1,0 +1,7 @@
+-- Laws of meeting.
+pub mod Branches
+pub mod Cells
+pub mod Choosing
+pub mod Tracing
+pub mod Nearest
+pub mod Admitted
