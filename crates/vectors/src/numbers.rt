@@ -64,7 +64,7 @@ fn repeated(t: &mut [u16], from: usize, n: usize, times: usize) -> usize {
     k
 }
 
-// One digit more.
+// One digit more, of a number below 65,536.
 fn with_digit(value: usize, byte: u8) -> usize {
     value % 65536 * 10 + byte as usize % 48
 }
@@ -79,7 +79,7 @@ fn ended(s: Reading, t: &mut [u16]) -> usize {
 
 // One byte more: a digit, or a comma, a star, a plus or a space behind a number.
 fn taken(s: Reading, byte: u8, t: &mut [u16]) -> Reading {
-    if 48 <= byte {
+    if b'0' <= byte {
         return Reading {
             count: s.count,
             from: s.from,
@@ -88,7 +88,7 @@ fn taken(s: Reading, byte: u8, t: &mut [u16]) -> Reading {
         };
     }
     let count = ended(s, t);
-    if byte == 32 {
+    if byte == b' ' {
         return Reading {
             count,
             from: count,
@@ -96,7 +96,7 @@ fn taken(s: Reading, byte: u8, t: &mut [u16]) -> Reading {
             times: false,
         };
     }
-    if byte == 43 {
+    if byte == b'+' {
         return Reading {
             count,
             from: 0,
@@ -108,7 +108,7 @@ fn taken(s: Reading, byte: u8, t: &mut [u16]) -> Reading {
         count,
         from: s.from,
         value: 0,
-        times: byte == 42,
+        times: byte == b'*',
     }
 }
 

@@ -95,11 +95,11 @@ fn append(m: &mut [u8], n: usize, s: &[u8]) -> usize {
 
 // Text behind the bytes in use: a line and its line feed, or a line without it.
 fn written(line: &[u8], m: &mut [u8], n: usize) -> usize {
-    if begins(line, 43) {
+    if begins(line, b'+') {
         let end = append(m, n, rest(line));
-        return put_byte(m, end, 10);
+        return put_byte(m, end, b'\n');
     }
-    if begins(line, 45) {
+    if begins(line, b'-') {
         return append(m, n, rest(line));
     }
     n
@@ -188,7 +188,7 @@ fn called(
     let words = s.t;
     let marks = s.m;
     let bytes = s.y;
-    if !begins(line, 33) {
+    if !begins(line, b'!') {
         return s.u;
     }
     if t.len() < words {
@@ -215,7 +215,7 @@ fn called(
 
 // A heading, printed as it stands.
 fn heading(line: &[u8]) {
-    if begins(line, 58) {
+    if begins(line, b':') {
         show::text(rest(line));
         show::text(b"\n");
     }
@@ -235,14 +235,14 @@ fn refilled(
 ) -> Sizes {
     let n = written(line, m, s.m);
     Sizes {
-        r: filled(line, 114, r, s.r),
-        p: filled(line, 112, p, s.p),
-        x: filled(line, 120, x, s.x),
-        t: filled(line, 116, t, s.t),
-        m: filled_bytes(line, 109, m, n),
-        y: filled_bytes(line, 121, y, s.y),
-        u: said(line, 117, u),
-        v: said(line, 118, s.v),
+        r: filled(line, b'r', r, s.r),
+        p: filled(line, b'p', p, s.p),
+        x: filled(line, b'x', x, s.x),
+        t: filled(line, b't', t, s.t),
+        m: filled_bytes(line, b'm', m, n),
+        y: filled_bytes(line, b'y', y, s.y),
+        u: said(line, b'u', u),
+        v: said(line, b'v', s.v),
     }
 }
 
@@ -277,7 +277,7 @@ fn between(text: &[u8], from: usize, to: usize) -> &[u8] {
 // Whether a line ends at this place.
 fn ends(input: &[u8], i: usize) -> bool {
     if i < input.len() {
-        return input[i] == 10;
+        return input[i] == b'\n';
     }
     false
 }
@@ -285,7 +285,7 @@ fn ends(input: &[u8], i: usize) -> bool {
 // Where the next line begins, if one ends here.
 fn start(input: &[u8], from: usize, i: usize) -> usize {
     if i < input.len() {
-        if input[i] == 10 {
+        if input[i] == b'\n' {
             return i + 1;
         }
     }
