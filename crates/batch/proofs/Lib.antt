@@ -1,8 +1,7 @@
 -- Laws of plans.
 pub mod Checked
 pub mod Tables
-pub mod Parts
-pub mod Judging
+pub mod Judged
 pub mod Numbers
 pub mod Slots
 pub mod Searching

@@ -11,9 +11,11 @@ use lib.ListN.{length, getD, set}
 use lib.Seq.{getD-set-same, getD-set-other}
 use Rattle.conflict.specs.Conflict.{Update, Conflict}
 use Rattle.order.specs.Model.{read, update, At, earlier, number}
-use Rattle.batches.specs.Batches.{updateOf, batchOf}
+use Rattle.batches.specs.Batches.{patternOf, updateOf, batchOf}
 use Rattle.batch.specs.Batch.{SlotIs}
-use Rattle.batch.specs.Walking.{Updating}
+use Rattle.batch.specs.Walking.{Standing, Updating}
+use Rattle.judging.specs.Judging.{Clash}
+use Rattle.batch.proofs.Judged.{told}
 use Rattle.batch.proofs.Numbers.{earlier-next, earlier-within, number-before, number-one}
 
 -- at this place of the batch stands the update of this number, and it comes before frame k
@@ -83,38 +85,42 @@ module _ {b : List ℕ} {k : ℕ} {r : List ℕ} {m : ℕ} where
     slot = record { some = λ h. absurd (omega arith); greatest = λ p h c. omega (arith, s .greatest p h c) };
   }
 
-  module _ {j : ℕ} (s : Searched b k r m j) (some : j ≡ 0 → ⊥) {places : List ℕ} (n : Noted b k places m) {c : Bool}
-      (tells : (c ≡ true) ↔ Conflict r (updateOf b (getD places (j - 1) 0))) where
-    note : Note b k (getD places (j - 1) 0) j
-    note =
-        let same : suc (j - 1) ≡ j = omega arith in
-        rw same at (n .each (j - 1) (omega (arith, s .within)))
+-- the search of a read, at an update of which it is told whether they clash
+module _ {b : List ℕ} {k at m j : ℕ} (here : Standing b at) (s : Searched b k (patternOf b at) m j) (some : j ≡ 0 → ⊥) {places : List ℕ} (n : Noted b k places m)
+    {c : Bool} (clash : (c ≡ true) ↔ Clash (patternOf b at) (updateOf b (getD places (j - 1) 0))) where
+  note : Note b k (getD places (j - 1) 0) j
+  note =
+      let same : suc (j - 1) ≡ j = omega arith in
+      rw same at (n .each (j - 1) (omega (arith, s .within)))
 
-    -- the update that is looked at conflicts: it is the nearest
-    pub search-hit : {w : ℕ} → c ≡ true → w ≡ j → Slotted b k r m w
-    search-hit e here = record {
-      most = omega (arith, s .within);
-      slot = record {
-        some = λ h. record {
-          frame = note .frame;
-          what = updateOf b (getD places (j - 1) 0);
-          at = note .there;
-          earlier = note .before;
-          conflicts = tells .0 e;
-          numbered = note .numbered ∙ sym here;
-        };
-        greatest = λ p h d. omega (arith, s .greatest p h d);
+  tells : (c ≡ true) ↔ Conflict (patternOf b at) (updateOf b (getD places (j - 1) 0))
+  tells = told b here (note .updating) clash
+
+  -- the update that is looked at conflicts: it is the nearest
+  pub search-hit : {w : ℕ} → c ≡ true → w ≡ j → Slotted b k (patternOf b at) m w
+  search-hit e is = record {
+    most = omega (arith, s .within);
+    slot = record {
+      some = λ h. record {
+        frame = note .frame;
+        what = updateOf b (getD places (j - 1) 0);
+        at = note .there;
+        earlier = note .before;
+        conflicts = tells .0 e;
+        numbered = note .numbered ∙ sym is;
       };
-    }
+      greatest = λ p h d. omega (arith, s .greatest p h d);
+    };
+  }
 
-    -- it does not: one less is left
-    pub search-on : c ≡ false → Searched b k r m (j - 1)
-    search-on e = record { within = omega (arith, s .within); greatest = less }
-      where
-        other : {i : ℕ} {u : Update} → At (batchOf b) i (update u) → Conflict r u → number (batchOf b) i ≢ j
-        other p d q =
-            let one = number-one p (note .there) (q ∙ sym (note .numbered)) in
-            false≢true (sym e ∙ tells .1 (subst (λ u. Conflict r u) one d))
+  -- it does not: one less is left
+  pub search-on : c ≡ false → Searched b k (patternOf b at) m (j - 1)
+  search-on e = record { within = omega (arith, s .within); greatest = less }
+    where
+      other : {i : ℕ} {u : Update} → At (batchOf b) i (update u) → Conflict (patternOf b at) u → number (batchOf b) i ≢ j
+      other p d q =
+          let one = number-one p (note .there) (q ∙ sym (note .numbered)) in
+          false≢true (sym e ∙ tells .1 (subst (λ u. Conflict (patternOf b at) u) one d))
 
-        less : {i : ℕ} {u : Update} → At (batchOf b) i (update u) → i < k → Conflict r u → number (batchOf b) i ≤ j - 1
-        less p h d = let off = other p d in omega (arith, s .greatest p h d)
+      less : {i : ℕ} {u : Update} → At (batchOf b) i (update u) → i < k → Conflict (patternOf b at) u → number (batchOf b) i ≤ j - 1
+      less p h d = let off = other p d in omega (arith, s .greatest p h d)

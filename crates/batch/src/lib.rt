@@ -1,3 +1,2 @@
 // The plan of a batch: each update's number, and for each read the slot before which it may not run.
-mod conflicts;
 pub mod plan;

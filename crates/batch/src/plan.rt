@@ -1,20 +1,33 @@
 // The plan of a batch: one word a frame.
-use crate::conflicts::conflicts;
-use crate::conflicts::frame_end;
 use batches::Counted;
 use batches::checked;
+use judging::conflicts;
 use tables::limits::FRAME_LIMIT;
 use tables::refusal::Refusal;
 use tables::words::word;
+ghost use mathlib.Core.Path.{_≡_};
 ghost use lib.ListN.{length};
+ghost use Rattle.frames.specs.Frames.{endOf};
 ghost use Rattle.batches.specs.Batches.{batchOf};
 ghost use Rattle.batch.specs.Batch.{Written, Plan};
-ghost use Rattle.batch.specs.Walking.{Planning};
+ghost use Rattle.batch.specs.Walking.{Standing, Planning};
 
 // The number of frames, or a refusal.
 pub enum Planned {
     Refused(Refusal),
     Frames(usize),
+}
+
+// Where a frame ends.
+fn frame_end(b: &[u16], at: usize) -> usize
+    requires { ⌜ Standing (now b) at ⌝ }
+    ensures { λ r. ⌜ r ≡ endOf (now (b .entry)) at ⌝ }
+{
+    let end = at + 2 + 2 * word(b, at + 1);
+    if word(b, at) != 2 {
+        return end;
+    }
+    end + 1 + 2 * word(b, end)
 }
 
 // An update gets its number, a read its slot: the nearest earlier update that conflicts, looked for from the read backwards, or 0.

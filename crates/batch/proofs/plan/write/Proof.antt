@@ -27,7 +27,7 @@ found : (c : tie.Joined2 Inv-loop2 μ-loop2 Inv-loop μ-loop) → Slotted (c .be
 found c =
     ⊎-elim
     (λ w. search-none (c .before .loop2 .inv) (w .0 .taken) (w .1))
-    (λ w. search-hit (c .before .loop2 .inv) (w .0 .left) (c .before .before .before .before .before .before .loop .inv .noted) (w .1 .ensures) (w .2 .taken) (w .3))
+    (λ w. search-hit (stands (c .before .before .before .before .before .before .loop .inv) (c .before .before .before .before .before .loop-test .taken)) (c .before .loop2 .inv) (w .0 .left) (c .before .before .before .before .before .before .loop .inv .noted) (w .1 .ensures) (w .2 .taken) (w .3))
     (c .if2 .came)
 
 pub write-spec : {M : Type 1} → statement M
@@ -54,10 +54,10 @@ write-spec =
     (λ c. omega arith)
     (λ c. omega (arith, noted-few (c .before .before .before .before .before .before .loop .inv) (c .before .before .before .before .before .loop-test .taken), c .before .loop2 .inv .within))
     (λ c. omega (arith, noted-few (c .before .before .before .before .before .before .loop .inv) (c .before .before .before .before .before .loop-test .taken), c .before .loop2 .inv .within))
-    (λ c κs. (stands (c .before .before .before .before .before .before .loop .inv) (c .before .before .before .before .before .loop-test .taken), c .before .before .before .before .before .before .loop .inv .noted .each (c .before .loop2 .j - 1) (omega (arith, c .before .loop2 .inv .within)) .updating))
+    (λ c κs. search needs)
     (λ c. search needs)
     (λ c. search needs)
-    (λ c. search-on (c .before .before .before .loop2 .inv) (c .before .before .if2 .left) (c .before .before .before .before .before .before .before .before .loop .inv .noted) (c .before .conflicts .ensures) (c .if3 .left))
+    (λ c. search-on (stands (c .before .before .before .before .before .before .before .before .loop .inv) (c .before .before .before .before .before .before .before .loop-test .taken)) (c .before .before .before .loop2 .inv) (c .before .before .if2 .left) (c .before .before .before .before .before .before .before .before .loop .inv .noted) (c .before .conflicts .ensures) (c .if3 .left))
     (λ c. omega (arith, found (c .before) .most, noted-few (c .before .before .before .before .before .before .before .loop .inv) (c .before .before .before .before .before .before .loop-test .taken)))
     (λ c. omega (arith, room (c .before .before .before .before .before .before .before .loop .inv) (c .before .before .before .before .before .before .loop-test .taken)))
     (λ c. room (c .before .before .before .before .before .before .before .loop .inv) (c .before .before .before .before .before .before .loop-test .taken))

@@ -1,0 +1,3 @@
+-- Laws of the code that judges.
+pub mod Told
+pub mod Parts

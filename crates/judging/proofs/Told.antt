@@ -1,0 +1,52 @@
+-- From the verdict on a read and an update to whether they clash.
+use Prim.Native.Nat.{ℕ, _+_, _*_, _-_}
+use mathlib.Core.Path.{_≡_, refl}
+use mathlib.Core.Bool.{Bool, true, false, false≢true}
+use mathlib.Core.List.{List}
+use mathlib.Core.Logic.{_↔_}
+use lib.ListN.{length, take}
+use native.Mathlib.Omega.{arith}
+use Rattle.tables.specs.Limits.{stepLimit}
+use Rattle.tables.specs.declared.refusal.Refusal.{Refusal}
+use Rattle.tables.specs.declared.refusal.Checked.{Checked}
+use Rattle.tables.specs.declared.refusal.Checked.the-variants.{Fine, Refused}
+use Rattle.tables.proofs.Accepted.{then-first}
+use Rattle.conflict.specs.Conflict.{Update, delete, insert}
+use Rattle.admission.specs.Order.{roomCheck, deepDeleteCheck, deepInsertCheck, deleteCheck, insertCheck, deepCheck, verdictCheck}
+use Rattle.verdict.specs.Promise.{NodeVerdict}
+use Rattle.admission.proofs.Accepting.{delete-longest, insert-longest}
+use Rattle.verdict.specs.declared.node.Verdict.{Verdict}
+use Rattle.verdict.specs.declared.node.Verdict.the-variants as verdict
+use Rattle.judging.specs.Judging.{Clash}
+
+-- the words of the longest witness
+abbrev longest : ℕ
+longest = 2 * (stepLimit + stepLimit - 1)
+
+-- what the code answers
+abbrev pub said : Verdict → Bool
+said (verdict.Refused why) = false
+said verdict.Clear = false
+said (verdict.Conflict n) = true
+
+refused-not-fine : {c : Checked} {why : Refusal} → c ≡ Refused why → c ≡ Fine → ⊥
+refused-not-fine e f = let z : _≡_ {A = ℕ} 0 1 = cc in omega arith
+
+-- with an output that holds the longest witness the order is that without an output
+module _ (r : List ℕ) (out after : List ℕ) (long : length out ≡ longest) where
+  room-enough : (u : Update) → deepCheck r u ≡ Fine → verdictCheck r u (length out) ≡ Fine
+  room-enough (delete p) e = delete-longest r p long e
+  room-enough (insert p x) e = insert-longest r p long x e
+
+  room-aside : (u : Update) → verdictCheck r u (length out) ≡ Fine → deepCheck r u ≡ Fine
+  unfolding deleteCheck insertCheck
+  room-aside (delete p) e = then-first (deepDeleteCheck r p) (roomCheck r p (length out)) e
+  room-aside (insert p x) e = then-first (deepInsertCheck r p x) (roomCheck r p (length out)) e
+
+  pub told : (u : Update) (answer : Verdict) → NodeVerdict r u out after answer → (said answer ≡ true) ↔ Clash r u
+  told u (verdict.Refused why) v = ((λ e. absurd (false≢true e)), (λ c. absurd (refused-not-fine (v .given) (room-enough u (c .fine)))))
+  told u verdict.Clear v = ((λ e. absurd (false≢true e)), (λ c. absurd (v .none (c .conflict))))
+  told u (verdict.Conflict n) v = (
+    (λ e. record { fine = room-aside u (v .fine); conflict = record { tree = take (2 * n) after; shows = v .witness } }),
+    (λ c. refl),
+  )
