@@ -1,20 +1,20 @@
 -- From what the checks and the copies give to the promise of insert.
 use Prim.Native.Nat.{ℕ, _+_, _*_, _/_, min}
-use mathlib.Core.Path.{_≡_, sym, _∙_}
+use mathlib.Core.Path.{_≡_, sym, _∙_, ap}
 use mathlib.Core.List.{List}
 use native.Mathlib.Omega.{arith}
 use lib.Dec.{leb}
 use lib.ListN.{length}
 use Rattle.tables.specs.Limits.{treeLimit, usedLimit}
 use Rattle.tables.specs.Words.{nodes}
-use Rattle.tables.specs.Documents.{Doc}
+use Rattle.tables.specs.Documents.{Doc, doc}
 use Rattle.tables.specs.Checks.{test, refuse}
 use Rattle.tables.specs.declared.refusal.Refusal.{Refusal}
 use Rattle.tables.specs.declared.refusal.Checked.{Checked}
 use Rattle.tables.specs.declared.refusal.Checked.the-variants.{Fine, Refused}
 use Rattle.tables.proofs.Soundness.{Words, used-facts, accepted-tree, accepted-nodes}
-use Rattle.selection.specs.Lists.{count}
-use Rattle.selection.specs.Operations.{copies, fits, inserted}
+use Rattle.selection.specs.Lists.{rising, count}
+use Rattle.selection.specs.Operations.{copies, fits, inserted, grafts}
 use Rattle.selection.proofs.Lists.{count-most}
 use Rattle.selection.proofs.Inserting.{Room}
 use Rattle.updating.specs.declared.insert.Inserted.{Inserted}
@@ -23,7 +23,9 @@ use Rattle.updating.specs.Updating.{insertCheck, insertAnswer, Insert}
 use Rattle.updating.specs.Asking.{chosen, tablesCheck, Asked}
 use Rattle.updating.proofs.Asking.{row-copies, row-points}
 use Rattle.updating.proofs.Accepted.{three-document, three-tree, insert-three, insert-last, insert-tree, insert-room, copied-fine, refused-told}
-use Rattle.inserting.specs.Copying.{Small, Roomy, Grafted, Planned}
+use Rattle.grafting.specs.Grafting.{copiedAll}
+use Rattle.grafting.proofs.Trees.{chosen-grafts}
+use Rattle.inserting.specs.Planning.{Small, Planned}
 
 -- an insert is planned on the row of a read
 module _ (p x : List ℕ) (d : Doc) {before after : List ℕ} {got : Checked}
@@ -62,26 +64,25 @@ module _ (p x : List ℕ) (d : Doc) {before after : List ℕ} {answer : Inserted
     passes : insertCheck p x d ≡ Fine
     passes = copied-fine (insertCheck p x d) (copies p d) (d .used + copies p d * nodes x) (sym (planned .answered) ∙ told)
 
-    -- a plan that is fine has room for every copy
-    pub roomy : Words x → Roomy x d after
-    roomy words =
+    -- a plan that is fine has room for every copy, and x is a tree: the copies are its grafts
+    copies-grafts : Words x → Words (d .rows) → copiedAll x (rising (chosen after) (d .used)) d ≡ grafts x (rising (chosen after) (d .used)) d
+    copies-grafts words table =
         let same = row-copies p d before (planned .row told) in
         let room : Room p x d = insert-room p x d passes in
-        record {
-          limit = rw same (room .limit);
-          rows = rw same (room .rows);
-          marks = rw same (room .marks);
-          falls = accepted-tree x treeLimit 3 (insert-tree p x d passes) words .parents;
-        }
+        chosen-grafts x words (accepted-tree x treeLimit 3 (insert-tree p x d passes) words .parents) (chosen after) d
+        (record { limit = rw same (room .limit); rows = rw same (room .rows); marks = rw same (room .marks) })
+        table
 
-    pub insert-done : {rows marks : List ℕ} → Grafted x d after rows marks → Insert p x d (d .rows) (d .marks) rows marks (Copied n used)
+    pub insert-done : Words x → Words (d .rows) → {rows marks : List ℕ} {end : ℕ} → doc rows marks end ≡ copiedAll x (rising (chosen after) (d .used)) d →
+        Insert p x d (d .rows) (d .marks) rows marks (Copied n used)
     unfolding inserted
-    insert-done grafted =
+    insert-done words table copied =
         let same = row-points p d before (planned .row told) in
+        let all = copied ∙ copies-grafts words table in
         record {
           answered = sym told ∙ planned .answered;
-          rows = rw (passes, ← same) (grafted .rows);
-          marks = rw (passes, ← same) (grafted .marks);
+          rows = rw (passes, ← same) (ap (λ (e : Doc). e .rows) all);
+          marks = rw (passes, ← same) (ap (λ (e : Doc). e .marks) all);
         }
 
   pub insert-refused : {r : Refusal} → answer ≡ NotInserted r → Insert p x d (d .rows) (d .marks) (d .rows) (d .marks) (NotInserted r)

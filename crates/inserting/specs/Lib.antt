@@ -1,2 +1,2 @@
 -- What the inside of insert holds.
-pub mod Copying
+pub mod Planning

@@ -1,7 +1,5 @@
 // Insert, for every caller.
-mod copying;
-
-use crate::copying::grafts;
+use grafting::grafts;
 use reading::read::reading;
 use room::counted;
 use room::fitting;
@@ -19,7 +17,7 @@ ghost use Rattle.tables.specs.Documents.{doc};
 ghost use Rattle.tables.specs.Checks.{test, refuse};
 ghost use Rattle.updating.specs.Updating.{insertAnswer, Insert};
 ghost use Rattle.updating.specs.Asking.{tablesCheck, Asked};
-ghost use Rattle.inserting.specs.Copying.{Small, Planned};
+ghost use Rattle.inserting.specs.Planning.{Small, Planned};
 
 // The refusals of the document, the pattern and the tree, and the row of selected nodes where there is none.
 fn asked(p: &[u16], x: &[u16], rows: &[u16], marks: &[u8], used: usize, row: &mut [u8]) -> Checked

@@ -1,11 +1,11 @@
 -- The parts of the batch that go to the verdict are the steps and nodes of its frames.
 use Prim.Native.Nat.{ℕ, _+_, _*_, _-_, _<_, _≤_}
-use mathlib.Core.Path.{_≡_, refl, sym, _∙_, ap}
+use mathlib.Core.Path.{_≡_, sym, _∙_, ap}
 use mathlib.Core.Bool.{Bool, true}
 use mathlib.Core.List.{List, []}
 use mathlib.Core.Logic.{_↔_}
 use native.Mathlib.Omega.{arith}
-use lib.ListN.{length, take, drop, length-drop}
+use lib.ListN.{length, drop, length-drop}
 use lib.Seq.{take-all, take-nil, drop-nil, drop-length, drop-drop}
 use borrow.Author.Tests.{ne-eqb}
 use Rattle.conflict.specs.Conflict.{delete, insert}

@@ -1,0 +1,2 @@
+-- What one copy gives, for every table.
+pub mod Copying

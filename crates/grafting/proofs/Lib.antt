@@ -1,0 +1,3 @@
+-- Laws of the copies.
+pub mod Turns
+pub mod Trees

@@ -1,0 +1,2 @@
+-- What copies under chosen nodes give, for every table.
+pub mod Grafting
