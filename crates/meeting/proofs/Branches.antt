@@ -10,7 +10,7 @@ use lib.ListN.{length}
 use borrow.Author.Tests.{eq-eqb, ne-eqb, lt-ltb, le-ltb, not-true, not-false}
 use Rattle.tables.specs.Words.{axis}
 use Rattle.selection.specs.Ways.{stays}
-use Rattle.conflict.specs.Meeting.{agree, landing, shared, sooner, least, onward}
+use Rattle.conflict.specs.Meeting.{agree, sooner, least, onward}
 
 module _ (x y : ℕ) where
   pub agree-first : x ≡ 0 → true ≡ agree x y
@@ -24,22 +24,6 @@ module _ (x y : ℕ) where
   pub agree-names : (x ≡ 0 → ⊥) → (y ≡ 0 → ⊥) → eqb x y ≡ agree x y
   unfolding agree
   agree-names e d = rw (ne-eqb x 0 e, ne-eqb y 0 d)
-
-pub landing-any : (x : ℕ) → x ≡ 0 → 1 ≡ landing x
-unfolding landing
-landing-any x e = rw (eq-eqb x 0 e)
-
-pub landing-name : (x : ℕ) → (x ≡ 0 → ⊥) → x ≡ landing x
-unfolding landing
-landing-name x e = rw (ne-eqb x 0 e)
-
-pub shared-any : {r : ℕ} (x y : ℕ) → r ≡ landing y → x ≡ 0 → r ≡ shared x y
-unfolding shared
-shared-any x y q e = rw (eq-eqb x 0 e, q)
-
-pub shared-name : (x y : ℕ) → (x ≡ 0 → ⊥) → x ≡ shared x y
-unfolding shared
-shared-name x y e = rw (ne-eqb x 0 e)
 
 module _ (p : List ℕ) (below : Bool) (i : ℕ) where
   pub stays-end : length p / 2 ≤ i + 1 → below ≡ stays p below i

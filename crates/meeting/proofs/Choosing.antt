@@ -5,10 +5,10 @@ use mathlib.Core.Bool.{Bool, true, false, cond}
 use mathlib.Core.List.{List}
 use lib.Dec.{eqb}
 use borrow.Author.Tests.{eq-eqb, ne-eqb}
-use Rattle.tables.specs.Words.{label}
-use Rattle.conflict.specs.Meeting.{landing, shared, sooner, least}
+use Rattle.conflict.specs.Meeting.{sooner, least}
+use Rattle.landing.specs.Landing.{pick}
 use Rattle.meeting.specs.Cells.{bothLand, readLands, updateLands}
-use Rattle.meeting.specs.Tracing.{pick, choose, moveOf, labelOf, readAfter, updateAfter}
+use Rattle.meeting.specs.Tracing.{choose, moveOf, readAfter, updateAfter}
 
 module _ (m n k : ℕ) {t : Bool} {d : ℕ} where
   pub choose-first : d ≡ least n k → t ≡ sooner m d → t ≡ true → 0 ≡ choose m n k
@@ -40,19 +40,6 @@ module _ (r : List ℕ) (below : Bool) (p : List ℕ) (under : Bool) (i j : ℕ)
       → c ≡ updateLands r below p under i j → m ≡ choose a b c → m ≡ moveOf r below p under i j
   unfolding moveOf
   move-inner n k e f g h = rw (ne-eqb i 0 n, ne-eqb j 0 k, h, e, f, g)
-
-module _ (r p : List ℕ) (i j m : ℕ) {x y l : ℕ} (d : x ≡ label r i) (e : y ≡ label p j) where
-  pub label-both : m ≡ 0 → l ≡ shared x y → l ≡ labelOf r p i j m
-  unfolding labelOf pick
-  label-both z h = rw (eq-eqb m 0 z, h, d, e)
-
-  pub label-read : (m ≡ 0 → ⊥) → m ≡ 1 → l ≡ landing x → l ≡ labelOf r p i j m
-  unfolding labelOf pick
-  label-read n z h = rw (ne-eqb m 0 n, eq-eqb m 1 z, h, d)
-
-  pub label-update : (m ≡ 0 → ⊥) → (m ≡ 1 → ⊥) → l ≡ landing y → l ≡ labelOf r p i j m
-  unfolding labelOf pick
-  label-update n z h = rw (ne-eqb m 0 n, ne-eqb m 1 z, h, e)
 
 module _ (i m : ℕ) where
   pub read-both : {k : ℕ} → m ≡ 0 → k ≡ pred i → k ≡ readAfter i m

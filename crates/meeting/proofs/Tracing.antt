@@ -16,8 +16,9 @@ use Rattle.conflict.specs.Meeting.{agree, landing, shared, sooner, least, short
 use Rattle.conflict.specs.Crossing.{chain}
 use Rattle.conflict.proofs.Steps.{length-shorter, length-longer}
 use Rattle.conflict.proofs.Shortest.{length-meetingOf, fewestOf-most}
+use Rattle.landing.specs.Landing.{pick, labelOf}
 use Rattle.meeting.specs.Cells.{bothLand, readLands, updateLands, Next}
-use Rattle.meeting.specs.Tracing.{pick, choose, moveOf, labelOf, readAfter, updateAfter, left, Traceable}
+use Rattle.meeting.specs.Tracing.{choose, moveOf, readAfter, updateAfter, left, Traceable}
 use Rattle.meeting.proofs.Cells.{held-less}
 use Rattle.meeting.proofs.Choosing.{move-first, move-update, move-read, move-inner}
 

@@ -5,13 +5,10 @@ use mathlib.Core.Bool.{Bool, cond}
 use mathlib.Core.List.{List, []}
 use lib.Dec.{eqb}
 use lib.ListN.{length}
-use Rattle.tables.specs.Words.{steps, label}
-use Rattle.conflict.specs.Meeting.{landing, shared, sooner, least, meetingOf}
+use Rattle.tables.specs.Words.{steps}
+use Rattle.conflict.specs.Meeting.{sooner, least, meetingOf}
+use Rattle.landing.specs.Landing.{pick}
 use Rattle.meeting.specs.Cells.{bothLand, readLands, updateLands, Held}
-
--- of three things that of a move: 0, both land; 1, the read lands and the update stays; 2, the update lands and the read stays
-unfoldable pub pick : {A : Type 0} → ℕ → A → A → A → A
-pick m a b c = cond (eqb m 0) a (cond (eqb m 1) b c)
 
 -- the move that leads to the least of three numbers, of equal ones the first in this order
 unfoldable pub choose : ℕ → ℕ → ℕ → ℕ
@@ -24,10 +21,7 @@ moveOf r below p under i j =
     (cond (eqb j 0) 0 2)
     (cond (eqb j 0) 1 (choose (bothLand r below p under i j) (readLands r below p under i j) (updateLands r below p under i j)))
 
--- the label at which it lands, and the states above it
-unfoldable pub labelOf : List ℕ → List ℕ → ℕ → ℕ → ℕ → ℕ
-labelOf r p i j m = pick m (shared (label r i) (label p j)) (landing (label r i)) (landing (label p j))
-
+-- the states above it
 unfoldable pub readAfter : ℕ → ℕ → ℕ
 readAfter i m = pick m (pred i) (pred i) i
 

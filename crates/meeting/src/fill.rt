@@ -1,10 +1,10 @@
 // The table of shortest common ways of a read and an update, filled row by row.
-use crate::labels::agreeing;
-use crate::labels::label_word;
+use crate::moves::agreeing;
 use crate::moves::least_of;
 use crate::moves::one_more;
 use crate::moves::staying;
 use tables::limits::STEP_LIMIT;
+use tables::words::second_word;
 use tables::words::word;
 ghost use Prim.Native.Nat.{_+_, _*_, _<_};
 ghost use mathlib.Core.Path.{_≡_};
@@ -38,7 +38,7 @@ pub(crate) fn both_land(
     ensures { λ x. ⌜ x ≡ bothLand (now (r .entry)) below (now (p .entry)) under i j ⌝ }
 {
     one_more(
-        agreeing(label_word(r, i), label_word(p, j)),
+        agreeing(second_word(r, i), second_word(p, j)),
         cell(table, i - 1, j - 1),
     )
 }
@@ -111,7 +111,7 @@ fn number(
 fn first_landing(r: &[u16], p: &[u16]) -> usize
     ensures { λ x. ⌜ x ≡ cond (agree (label (now (r .entry)) 0) (label (now (p .entry)) 0)) 1 0 ⌝ }
 {
-    if agreeing(label_word(r, 0), label_word(p, 0)) {
+    if agreeing(second_word(r, 0), second_word(p, 0)) {
         return 1;
     }
     0

@@ -1,6 +1,5 @@
 // The shortest way on which a read and an update meet, counted and written.
 mod fill;
-mod labels;
 mod moves;
 mod witness;
 
@@ -99,26 +98,7 @@ fn write_nearest(
     number
 }
 
-// The same, over a table of its own.
-fn fill_and_write(
-    r: &[u16],
-    below: bool,
-    p: &[u16],
-    under: bool,
-    states: &[u8],
-    j: usize,
-    out: &mut [u16],
-) -> usize
-    requires { ⌜ Bounded (now r) (now p) ⌝ }
-    requires { ⌜ j < steps (now p) ⌝ }
-    ensures { λ n. ⌜ Met (now (r .entry)) (now (p .entry)) (nearest (now (r .entry)) below (now (p .entry)) under (now (states .entry)) j (steps (now (r .entry)))) (now (out .entry)) (now (out .exit)) n ⌝ }
-{
-    let mut table = blank_cells();
-    fill(r, below, p, under, &mut table);
-    write_nearest(r, below, p, under, states, j, &table, out)
-}
-
-// The same of admitted patterns, none where j is no state of p.
+// The same of admitted patterns, over a table of its own; none where j is no state of p.
 fn shortest(
     r: &[u16],
     below: bool,
@@ -134,7 +114,9 @@ fn shortest(
     if p.len() / 2 <= j {
         return 0;
     }
-    fill_and_write(r, below, p, under, states, j, out)
+    let mut table = blank_cells();
+    fill(r, below, p, under, &mut table);
+    write_nearest(r, below, p, under, states, j, &table, out)
 }
 
 // The shortest way on which both run, the read in a state that is marked by a 1 and the update in state j; each flag says whether anything

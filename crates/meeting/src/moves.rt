@@ -3,8 +3,21 @@ use tables::words::first_word;
 ghost use Prim.Native.Nat.{_<_, pred};
 ghost use mathlib.Core.Path.{_≡_};
 ghost use Rattle.selection.specs.Ways.{stays};
-ghost use Rattle.conflict.specs.Meeting.{sooner, least, onward};
+ghost use Rattle.conflict.specs.Meeting.{agree, sooner, least, onward};
 ghost use Rattle.tables.specs.Limits.{wordLimit};
+
+// Whether two steps can take one label.
+pub(crate) fn agreeing(x: usize, y: usize) -> bool
+    ensures { λ r. ⌜ r ≡ agree x y ⌝ }
+{
+    if x == 0 {
+        return true;
+    }
+    if y == 0 {
+        return true;
+    }
+    x == y
+}
 
 // Whether state i may stay.
 pub(crate) fn staying(p: &[u16], below: bool, i: usize) -> bool

@@ -2,12 +2,10 @@
 use crate::fill::both_land;
 use crate::fill::read_lands;
 use crate::fill::update_lands;
-use crate::labels::label_word;
-use crate::labels::landing_label;
-use crate::labels::shared_label;
 use crate::moves::earlier;
 use crate::moves::is_sooner;
 use crate::moves::least_of;
+use landing::landing_at;
 ghost use Prim.Native.Nat.{pred, _+_, _*_, _<_, _≤_};
 ghost use mathlib.Core.Path.{_≡_};
 ghost use mathlib.Core.List.{_∷_, _++_};
@@ -16,7 +14,7 @@ ghost use Rattle.tables.specs.Limits.{wordLimit};
 ghost use Rattle.conflict.specs.Meeting.{meetingOf};
 ghost use Rattle.conflict.specs.Crossing.{chain};
 ghost use Rattle.meeting.specs.Cells.{Next};
-ghost use Rattle.meeting.specs.Tracing.{choose, moveOf, labelOf, readAfter, updateAfter, left, Traceable};
+ghost use Rattle.meeting.specs.Tracing.{choose, moveOf, readAfter, updateAfter, left, Traceable};
 
 // The move that leads to the least of three numbers: 0, both land; 1, the read lands; 2, the update lands.
 fn chosen(both: usize, read: usize, update: usize) -> usize
@@ -56,21 +54,6 @@ fn move_at(
     let read = read_lands(r, below, p, under, i, j, table);
     let update = update_lands(r, below, p, under, i, j, table);
     chosen(both_land(r, below, p, under, i, j, table), read, update)
-}
-
-// The label at which a move lands.
-fn landing_at(r: &[u16], p: &[u16], i: usize, j: usize, m: usize) -> u16
-    ensures { λ l. ⌜ l ≡ labelOf (now (r .entry)) (now (p .entry)) i j m ⌝ }
-{
-    let x = label_word(r, i);
-    let y = label_word(p, j);
-    if m == 0 {
-        return shared_label(x, y);
-    }
-    if m == 1 {
-        return landing_label(x);
-    }
-    landing_label(y)
 }
 
 // The read's state above a move.

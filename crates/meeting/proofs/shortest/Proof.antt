@@ -11,4 +11,8 @@ shortest-spec =
     (λ c. search state-none)
     (λ c κs. search needs)
     (λ c. search needs)
+    (λ c κs. search needs)
+    (λ c. search needs)
+    (λ c κs. search needs)
+    (λ c. search needs)
     (λ c. search state-some))

@@ -1,8 +1,8 @@
 -- The branches of the code are those of the definition.
-use Rattle.meeting.proofs.Choosing.{label-both, label-read, label-update}
+use Rattle.landing.proofs.Branches.{label-both, label-read, label-update}
 use borrow.Author.Needs.{needs}
-use Rattle.meeting.proofs.witness.landing_at.Statement.{statement}
-use Rattle.meeting.proofs.witness.landing_at.Tie as tie
+use Rattle.landing.proofs.landing_at.Statement.{statement}
+use Rattle.landing.proofs.landing_at.Tie as tie
 
 pub landing-at-spec : {M : Type 1} → statement M
 landing-at-spec =

@@ -1,8 +1,8 @@
 -- Inside the table the label itself, outside it 0.
 use Rattle.tables.proofs.Outside.{past-second}
 use borrow.Author.Needs.{needs}
-use Rattle.meeting.proofs.labels.label_word.Statement.{statement}
-use Rattle.meeting.proofs.labels.label_word.Tie as tie
+use Rattle.landing.proofs.label_word.Statement.{statement}
+use Rattle.landing.proofs.label_word.Tie as tie
 
 pub label-word-spec : {M : Type 1} → statement M
 label-word-spec =

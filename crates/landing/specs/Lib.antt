@@ -1,0 +1,2 @@
+-- What a reader must believe of landing.
+pub mod Landing
