@@ -14,7 +14,8 @@ use Rattle.admission.specs.Order.{patternsCheck, deepDeleteCheck, deepInsertChe
 use Rattle.batches.specs.Batches.{patternOf, treeOf, updateOf}
 use Rattle.judging.specs.Judging.{Clash}
 use Rattle.batch.specs.Walking.{Standing, Updating}
-use Rattle.batches.proofs.Accepted.{frame-kind, steps-fine, delete-two, tree-fine}
+use Rattle.frames.proofs.Accepted.{frame-kind}
+use Rattle.batches.proofs.Accepted.{steps-fine, delete-two, tree-fine}
 use Rattle.batch.proofs.Tables.{pattern-other, tree-other}
 
 module _ (b : List ℕ) {at place : ℕ} (s : Standing b at) (u : Updating b place) where

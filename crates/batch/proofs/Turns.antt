@@ -19,7 +19,7 @@ use Rattle.frames.specs.Frames.{kind, endOf, frameCheck}
 use Rattle.batches.specs.Batches.{patternOf, updateOf, meaning, framesFrom, batchOf, checkFrom}
 use Rattle.batch.specs.Batch.{SlotIs, WordIs, Written}
 use Rattle.batch.specs.Walking.{Standing, Updating, Planning}
-use Rattle.batches.proofs.Accepted.{frame-below}
+use Rattle.frames.proofs.Accepted.{frame-below}
 use Rattle.batches.proofs.Frames.{frames-on, frames-off, check-on, accepted-frames}
 use Rattle.batch.proofs.Searching.{Noted, no-updates, noted-within, noted-read, noted-update}
 

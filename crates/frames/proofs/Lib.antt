@@ -1,3 +1,4 @@
 -- Laws of frames.
 pub mod Branches
 pub mod Ending
+pub mod Accepted

@@ -15,7 +15,7 @@ use Rattle.tables.specs.declared.refusal.Checked.the-variants.{Fine}
 use Rattle.frames.specs.Frames.{kind, endOf, frameCheck}
 use Rattle.digits.specs.Digits.{wordsOf}
 use Rattle.batches.specs.Batches.{framesFrom, batchOf, checkFrom, batchCheck, planCheck}
-use Rattle.batches.proofs.Accepted.{steps-room}
+use Rattle.frames.proofs.Accepted.{steps-room}
 use Rattle.batches.proofs.Frames.{frames-on, frames-off, check-on, check-off}
 use Rattle.printer.specs.Printer.{lineAt, takeCheck, Outcome, stopped, taken, Lines, none, bad, good}
 use Rattle.printer.proofs.Going.{taken-within, taken-frame, taken-end, taken-below}

@@ -16,7 +16,7 @@ use Rattle.tables.specs.declared.refusal.Checked.the-variants.{Fine, Refused}
 use Rattle.tables.proofs.Accepted.{held, then-first, then-second}
 use Rattle.parts.specs.Parts.{part}
 use Rattle.frames.specs.Frames.{kind, endOf, frameCheck}
-use Rattle.batches.proofs.Accepted.{frame-below}
+use Rattle.frames.proofs.Accepted.{frame-below}
 use Rattle.frames.proofs.Ending.{end-behind}
 use Rattle.digits.specs.Digits.{wordsOf}
 use Rattle.lines.specs.Lines.{lineCheck}

@@ -16,7 +16,7 @@ use Rattle.tables.proofs.Accepted.{then-first, then-second, then-both}
 use Rattle.parts.specs.Parts.{part, count, placed, countCheck, stepsCheck, nodesCheck}
 use Rattle.frames.specs.Frames.{kind, treeAt, kindRight, restCheck, frameCheck, endOf}
 use Rattle.parts.proofs.Branches.{count-here, count-some, count-within, count-room}
-use Rattle.batches.proofs.Accepted.{frame-kind, steps-room, tree-room}
+use Rattle.frames.proofs.Accepted.{frame-kind, steps-room, tree-room}
 
 module _ (b more : List ℕ) where
   same-word : (i : ℕ) → i < length b → getD (b ++ more) i 0 ≡ getD b i 0

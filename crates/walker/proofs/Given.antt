@@ -1,22 +1,19 @@
 -- What a frame that is given says: the batch is within its limit, and the frame is the one that stands there, within the batch.
-use Prim.Native.Nat.{ℕ, _+_, _*_, _<_, _≤_}
+use Prim.Native.Nat.{ℕ, _<_, _≤_}
 use mathlib.Core.Path.{_≡_, refl}
-use mathlib.Core.Bool.{Bool, true, false, _||_, cond, not}
+use mathlib.Core.Bool.{Bool, true, false, cond}
 use mathlib.Core.List.{List}
 use native.Mathlib.Omega.{arith}
-use lib.Dec.{eqb, ltb, leb}
+use lib.Dec.{ltb, leb}
 use lib.ListN.{length}
-use borrow.Author.Tests.{ltb-true, leb-true}
-use Rattle.tables.specs.Limits.{stepLimit, treeLimit, frameLimit, batchLimit}
-use Rattle.tables.specs.Checks.{_then_, test, refuse}
+use borrow.Author.Tests.{leb-true}
+use Rattle.tables.specs.Limits.{frameLimit, batchLimit}
 use Rattle.tables.specs.declared.refusal.Checked.{Checked}
 use Rattle.tables.specs.declared.refusal.Checked.the-variants.{Fine, Refused}
-use Rattle.tables.proofs.Accepted.{held, then-first, then-second}
-use Rattle.parts.specs.Parts.{count, countCheck, stepsCheck, nodesCheck}
-use Rattle.frames.specs.Frames.{kind, treeAt, kindRight, restCheck, frameCheck, endOf, frameOf, answered, frameAt}
+use Rattle.frames.specs.Frames.{frameCheck, endOf, frameOf, answered, frameAt}
 use Rattle.frames.specs.declared.Frame.{Frame}
-use Rattle.parts.proofs.Branches.{count-room}
 use Rattle.frames.proofs.Ending.{end-behind}
+use Rattle.frames.proofs.Accepted.{frame-below, end-room}
 use Rattle.walker.specs.Walker.{answerOf, stepAt}
 use Rattle.walker.specs.declared.Answer.{Answer}
 use Rattle.walker.specs.declared.Answer.the-variants as answer
@@ -39,33 +36,6 @@ given b n at {f} e = go (leb (length b) batchLimit) refl (ltb at (length b)) (fr
     go true h false c fine e = let z : _≡_ {A = ℕ} 0 1 = cc in absurd (omega arith)
     go false h t c fine e = let z : _≡_ {A = ℕ} 0 1 = cc in absurd (omega arith)
 
-module _ (b : List ℕ) (n at : ℕ) (e : frameCheck b n at ≡ Fine) where
-  pub number-below : n < frameLimit
-  unfolding frameCheck
-  number-below = ltb-true n frameLimit (held (ltb n frameLimit) _ (then-first (test (ltb n frameLimit) (refuse 10 6 n)) _ e))
-
-  body-fine : (stepsCheck b n (at + 1) then restCheck b n (kind b at) at) ≡ Fine
-  unfolding frameCheck
-  body-fine = then-second (test (kindRight (kind b at)) (refuse 8 6 n)) _ (then-second (test (ltb n frameLimit) (refuse 10 6 n)) _ e)
-
-  steps-room : treeAt at (count b (at + 1)) ≤ length b
-  unfolding stepsCheck
-  steps-room = omega (arith, count-room b n (at + 1) stepLimit (then-first (countCheck b n (at + 1) stepLimit) _ (then-first (stepsCheck b n (at + 1)) _ body-fine)))
-
-  rest-fine : cond (eqb (kind b at) 2) (nodesCheck b n (treeAt at (count b (at + 1)))) Fine ≡ Fine
-  unfolding restCheck
-  rest-fine = then-second (test (not (eqb (kind b at) 3) || ltb 1 (count b (at + 1))) (refuse 6 6 n)) _ (then-second (stepsCheck b n (at + 1)) (restCheck b n (kind b at) at) body-fine)
-
-  -- it ends within the batch
-  pub end-room : endOf b at ≤ length b
-  unfolding endOf nodesCheck
-  end-room = go (eqb (kind b at) 2) rest-fine
-    where
-      go : (t : Bool) → cond t (nodesCheck b n (treeAt at (count b (at + 1)))) Fine ≡ Fine
-          → cond t (treeAt at (count b (at + 1)) + 1 + 2 * count b (treeAt at (count b (at + 1)))) (treeAt at (count b (at + 1))) ≤ length b
-      go true h = count-room b n (treeAt at (count b (at + 1))) treeLimit (then-first (countCheck b n (treeAt at (count b (at + 1))) treeLimit) _ h)
-      go false h = steps-room
-
 -- the part from its place to its end lies within the batch
 module _ (b : List ℕ) (n at : ℕ) {got : Answer} {f : Frame} (is : got ≡ stepAt b n at) (e : got ≡ answer.Frame f) where
   here : Given b n at f
@@ -85,4 +55,4 @@ module _ (b : List ℕ) (n at : ℕ) {got : Answer} {f : Frame} (is : got ≡ st
   frame-room = rw next-is (end-room b n at (here .fine))
 
   pub frame-number : n < frameLimit
-  frame-number = number-below b n at (here .fine)
+  frame-number = frame-below b n at (here .fine)

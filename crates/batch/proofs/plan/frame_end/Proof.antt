@@ -6,7 +6,7 @@ use native.Mathlib.Omega.{arith}
 use borrow.Author.Needs.{needs}
 use Rattle.parts.specs.Parts.{count}
 use Rattle.frames.specs.Frames.{treeAt}
-use Rattle.batches.proofs.Accepted.{steps-room, tree-room}
+use Rattle.frames.proofs.Accepted.{steps-room, tree-room}
 use Rattle.batches.proofs.Frames.{end-other, end-insert}
 use Rattle.batch.proofs.plan.frame_end.Statement.{statement}
 use Rattle.batch.proofs.plan.frame_end.Tie as tie
