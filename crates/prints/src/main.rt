@@ -1,7 +1,7 @@
 // The plan printer on inputs at its edges: what it prints for each. What they should print is in `stdout`, worked out from document 01.
 use libc::STDOUT_FILENO;
-use printer::Printed;
 use printer::print;
+use printing::Printed;
 use spelling::write_line;
 ghost use mathlib.Core.Path.{_≡_};
 ghost use lib.ListN.{length};
