@@ -38,8 +38,8 @@ use Rattle.lines.specs.declared.Parsed.the-variants as parsed
 use Rattle.spelling.specs.Spelling.{WrittenAs}
 use Rattle.spelling.specs.declared.Spelled.the-variants as spelled
 use Rattle.printer.specs.Printer.{Lines, stopped, PrintedAs}
-use Rattle.printer.specs.declared.Printed.{Printed}
-use Rattle.printer.specs.declared.Printed.the-variants as printed
+use Rattle.printing.specs.declared.Printed.{Printed}
+use Rattle.printing.specs.declared.Printed.the-variants as printed
 
 -- every word of the list has 16 bits
 abbrev pub Words : List ℕ → Type 0

@@ -17,8 +17,8 @@ use Rattle.lines.specs.declared.Parsed.{Parsed}
 use Rattle.lines.specs.declared.Parsed.the-variants as parsed
 use Rattle.spelling.specs.declared.Spelled.{Spelled}
 use Rattle.spelling.specs.declared.Spelled.the-variants as spelled
-use Rattle.printer.specs.declared.Printed.{Printed}
-use Rattle.printer.specs.declared.Printed.the-variants as printed
+use Rattle.printing.specs.declared.Printed.{Printed}
+use Rattle.printing.specs.declared.Printed.the-variants as printed
 use Rattle.answers.specs.declared.answer.Answer.{Answer}
 use Rattle.answers.specs.Answers.{refusing, giving}
 

@@ -4,7 +4,7 @@ use answers::answer::giving;
 use answers::answer::refusing;
 use batch::plan::Planned;
 use lines::Parsed;
-use printer::Printed;
+use printing::Printed;
 use spelling::Spelled;
 use tables::refusal::Checked;
 use updating::delete::Deleted;

@@ -1,15 +1,14 @@
 -- Lines that are all taken are an accepted batch, a frame a line; a line that is refused has a small number.
-use Prim.Native.Nat.{ℕ, suc, _+_, _≤_, _<_}
-use mathlib.Core.Path.{_≡_, refl, sym, _∙_, ap}
+use Prim.Native.Nat.{ℕ, suc, _+_, _≤_}
+use mathlib.Core.Path.{_≡_, refl}
 use mathlib.Core.List.{List, [], _∷_, _++_}
 use native.Mathlib.Nat.{zero-add, add-zero}
 use native.Mathlib.Numerals.{add-one}
 use native.Mathlib.Omega.{arith}
-use lib.Dec.{leb}
 use lib.ListN.{length, length-append}
 use borrow.Author.Tests.{le-leb}
 use Rattle.tables.specs.Limits.{batchLimit, frameLimit}
-use Rattle.tables.specs.Checks.{_then_, outputCheck}
+use Rattle.tables.specs.Checks.{outputCheck}
 use Rattle.tables.specs.declared.refusal.Refusal.{Refusal}
 use Rattle.tables.specs.declared.refusal.Checked.the-variants.{Fine}
 use Rattle.frames.specs.Frames.{kind, endOf, frameCheck}
@@ -17,10 +16,9 @@ use Rattle.digits.specs.Digits.{wordsOf}
 use Rattle.batches.specs.Batches.{framesFrom, batchOf, checkFrom, batchCheck, planCheck}
 use Rattle.frames.proofs.Accepted.{steps-room}
 use Rattle.batches.proofs.Frames.{frames-on, frames-off, check-on, check-off}
-use Rattle.printer.specs.Printer.{lineAt, takeCheck, Outcome, stopped, taken, Lines, none, bad, good}
+use Rattle.printer.specs.Printer.{lineAt, takeCheck, stopped, taken, Lines, none, bad, good}
 use Rattle.printer.proofs.Going.{taken-within, taken-frame, taken-end, taken-below}
 use Rattle.printer.proofs.Longer.{frame-longer, end-longer}
-use Rattle.printer.proofs.Numbers.{numbered-take}
 
 -- from frame n at a place on, fine frames to the end of the batch, m in all
 pub data Walk (b : List ℕ) : ℕ → ℕ → ℕ → Type 0 where
@@ -63,8 +61,9 @@ pub lines-taken : {s : List ℕ} {at n : ℕ} {b kinds c more : List ℕ} → Li
 lines-taken (none h) t = rw (t .each) t
 lines-taken {s} {at} {n} {b} (good h e lines) t = lines-taken lines (sofar-more (lineAt s at) (kind (b ++ wordsOf (lineAt s at)) (length b)) e t)
 
-pub lines-stopped : {s : List ℕ} {at n : ℕ} {b kinds : List ℕ} {line : ℕ} {r : Refusal} → Lines s at n b kinds (stopped line r) → Sofar n b kinds → (line ≤ frameLimit + 1) × (r .number ≤ 13)
-lines-stopped {s} {at} {n} {b} (bad h e) t = (omega (arith, t .few), numbered-take (lineAt s at) n b .most e)
+-- the line of a refusal has a number of few digits
+pub lines-stopped : {s : List ℕ} {at n : ℕ} {b kinds : List ℕ} {line : ℕ} {r : Refusal} → Lines s at n b kinds (stopped line r) → Sofar n b kinds → line ≤ frameLimit + 1
+lines-stopped (bad h e) t = omega (arith, t .few)
 lines-stopped {s} {at} {n} {b} (good h e lines) t = lines-stopped lines (sofar-more (lineAt s at) (kind (b ++ wordsOf (lineAt s at)) (length b)) e t)
 
 module _ {n : ℕ} {b kinds : List ℕ} (t : Sofar n b kinds) where

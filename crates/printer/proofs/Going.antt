@@ -1,7 +1,6 @@
 -- Going from line to line: what the lines from here on end in, all lines end in.
-use Prim.Native.Nat.{ℕ, suc, _+_, _-_, _/_, _≤_, _<_}
-use mathlib.Core.Path.{_≡_, refl, sym, _∙_, ap}
-use mathlib.Core.Bool.{true}
+use Prim.Native.Nat.{ℕ, _+_, _-_, _/_, _≤_, _<_}
+use mathlib.Core.Path.{_≡_, refl, sym, _∙_}
 use mathlib.Core.List.{List, [], _∷_, _++_}
 use native.Mathlib.Numerals.{add-one}
 use native.Mathlib.Omega.{arith}
@@ -20,7 +19,7 @@ use Rattle.frames.proofs.Accepted.{frame-below}
 use Rattle.frames.proofs.Ending.{end-behind}
 use Rattle.digits.specs.Digits.{wordsOf}
 use Rattle.lines.specs.Lines.{lineCheck}
-use Rattle.printer.specs.Printer.{lineEnd, lineAt, takeCheck, Outcome, stopped, taken, Lines, none, bad, good}
+use Rattle.printer.specs.Printer.{lineEnd, lineAt, takeCheck, Outcome, taken, Lines, none, bad, good}
 use Rattle.printer.specs.Reading.{Roomy, TakenAs, RanAs}
 use Rattle.printer.specs.declared.Taken.{Taken}
 use Rattle.printer.specs.declared.Taken.the-variants as took
@@ -65,7 +64,7 @@ module _ {s batch₀ kinds₀ batch kinds : List ℕ} {at n used : ℕ} (going :
   pub go-roomy : Roomy used batch
   go-roomy = record { within = going .within; room = omega (arith, room, going .words) }
 
-  pub go-end : length s ≤ at → RanAs s batch kinds (ran.All (record { frames = n; words = used }))
+  pub go-end : length s ≤ at → RanAs s batch kinds (ran.All n used)
   go-end h = (going .back (none h), omega (arith, going .within, going .words, room), omega (arith, going .few, going .frames, places))
 
   module _ (h : at < length s) {end : ℕ} (is : end ≡ lineEnd s at) where
@@ -79,7 +78,7 @@ module _ {s batch₀ kinds₀ batch kinds : List ℕ} {at n used : ℕ} (going :
     go-most = rw is (end-most s at (omega (arith, h)))
 
     module _ (after : List ℕ) (got : Taken) (e : TakenAs (part s at (end - at)) n used batch after got) where
-      pub go-stop : {r : Refusal} → got ≡ took.Refused r → RanAs s after kinds (ran.Stopped (record { line = n + 1; why = r }))
+      pub go-stop : {r : Refusal} → got ≡ took.Refused r → RanAs s after kinds (ran.Stopped (n + 1) r)
       go-stop {r} told =
           let refused : takeCheck (part s at (end - at)) n (take used batch) ≡ Refused r = rw told at e in
           going .back (bad h (rw line-is at refused))

@@ -1,10 +1,8 @@
 -- Laws of the plan printer.
 pub mod Cutting
-pub mod Texts
 pub mod Taking
 pub mod Going
 pub mod Longer
-pub mod Numbers
 pub mod Accepting
 pub mod Promise
 pub mod Settled

@@ -1,22 +1,22 @@
 -- A frame that is fine stays fine, and stays where it is, when more words come behind it.
 use Prim.Native.Nat.{ℕ, _+_, _*_, _≤_, _<_}
-use mathlib.Core.Path.{_≡_, refl, sym, _∙_}
+use mathlib.Core.Path.{_≡_, refl}
 use mathlib.Core.Bool.{Bool, true, false, _||_, not, cond}
 use mathlib.Core.List.{List, _++_}
 use mathlib.Core.Logic.{_⊎_, inl, inr}
 use native.Mathlib.Omega.{arith}
-use lib.Dec.{eqb, ltb, leb}
-use lib.ListN.{length, getD, take, drop, length-append, length-drop, List·getD-append}
+use lib.Dec.{eqb, ltb}
+use lib.ListN.{length, getD, drop, length-append, length-drop, List·getD-append}
 use lib.Seq.{take-append-le, drop-append-le}
 use borrow.Author.Tests.{lt-ltb, le-leb}
 use Rattle.tables.specs.Limits.{stepLimit, treeLimit, frameLimit}
-use Rattle.tables.specs.Checks.{_then_, test, refuse, patternCheck, treeCheck}
-use Rattle.tables.specs.declared.refusal.Checked.the-variants.{Fine, Refused}
+use Rattle.tables.specs.Checks.{test, refuse}
+use Rattle.tables.specs.declared.refusal.Checked.the-variants.{Fine}
 use Rattle.tables.proofs.Accepted.{then-first, then-second, then-both}
-use Rattle.parts.specs.Parts.{part, count, placed, countCheck, stepsCheck, nodesCheck}
+use Rattle.parts.specs.Parts.{part, count, countCheck, stepsCheck, nodesCheck}
 use Rattle.frames.specs.Frames.{kind, treeAt, kindRight, restCheck, frameCheck, endOf}
 use Rattle.parts.proofs.Branches.{count-here, count-some, count-within, count-room}
-use Rattle.frames.proofs.Accepted.{frame-kind, steps-room, tree-room}
+use Rattle.frames.proofs.Accepted.{frame-kind, tree-room}
 
 module _ (b more : List ℕ) where
   same-word : (i : ℕ) → i < length b → getD (b ++ more) i 0 ≡ getD b i 0

@@ -1,18 +1,17 @@
 -- The promise of printing fixes its answer and its buffer.
-use Prim.Native.Nat.{ℕ, zero, suc, _+_, _≤_, _<_}
-use mathlib.Core.Path.{_≡_, refl, sym, _∙_, ap}
-use mathlib.Core.List.{List, [], _∷_, _++_}
+use Prim.Native.Nat.{ℕ, zero, suc, _<_}
+use mathlib.Core.Path.{_≡_, refl}
+use mathlib.Core.List.{List}
 use native.Mathlib.Omega.{arith}
-use lib.ListN.{length, getD, drop}
-use Rattle.tables.specs.declared.refusal.Refusal.{Refusal}
-use Rattle.tables.specs.declared.refusal.Checked.the-variants as checked
+use lib.ListN.{length, getD}
 use Rattle.order.specs.Model.{read, update}
 use Rattle.order.proofs.Places.{by-kind}
 use Rattle.batches.specs.Batches.{batchOf}
 use Rattle.batch.proofs.Laws.{word-one}
-use Rattle.printer.specs.Printer.{Outcome, stopped, taken, Lines, none, bad, good, PlanIs, threeOf, planText, Prints, refusal, plan, Answered, PrintedAs}
-use Rattle.printer.specs.declared.Printed.{Printed}
-use Rattle.printer.specs.declared.Printed.the-variants.{Refused, Bytes}
+use Rattle.printing.specs.Printing.{planText}
+use Rattle.printing.specs.declared.Printed.{Printed}
+use Rattle.printing.proofs.Promise.{answer-one}
+use Rattle.printer.specs.Printer.{Outcome, stopped, taken, Lines, none, bad, good, PlanIs, Prints, refusal, plan, PrintedAs}
 use Rattle.printer.proofs.Accepting.{sofar-none, lines-taken, sofar-frames}
 
 -- the lines end in one way
@@ -55,14 +54,6 @@ prints-one (plan {b = b} {kinds = ks} {plan = v} x p) (plan {b = c} {kinds = ls}
     rw kinds (text-one ks v w (length ks) (λ k h. plan-one b p (rw batch at q) k (rw frames h)))
 
 -- two answers with their buffers that meet the promise are the same
-answer-one : (text before a b : List ℕ) (x y : Printed) → Answered text before a x → Answered text before b y → (x ≡ y) × (a ≡ b)
-answer-one text before a b (Refused q) (Refused r) f g = let e = f .0 in let h = g .0 in ((cc), f .1 ∙ sym (g .1))
-answer-one text before a b (Refused q) (Bytes n) f g = let e = f .0 in let h = g .0 in let z : _≡_ {A = ℕ} 0 1 = cc in absurd (omega arith)
-answer-one text before a b (Bytes m) (Refused r) f g = let e = f .0 in let h = g .0 in let z : _≡_ {A = ℕ} 0 1 = cc in absurd (omega arith)
-answer-one text before a b (Bytes m) (Bytes n) f g =
-    let same = f .1 ∙ sym (g .1) in
-    (ap Bytes same, f .2 ∙ ap (λ (k : ℕ). text ++ drop k before) same ∙ sym (g .2))
-
 pub printed-one : (s before a b : List ℕ) (x y : Printed) → PrintedAs s before a x → PrintedAs s before b y → (x ≡ y) × (a ≡ b)
 printed-one s before a b x y f g =
     let text : g .text ≡ f .text = prints-one (g .prints) (f .prints) in

@@ -1,22 +1,21 @@
 -- Taking one line: its words behind those in use, then its checks as a frame.
-use Prim.Native.Nat.{ℕ, zero, suc, _+_, _-_, _*_, _/_, _%_, _≤_, _<_, min}
+use Prim.Native.Nat.{ℕ, zero, suc, _+_, _-_, _/_, _%_, _≤_, min}
 use mathlib.Core.Path.{_≡_, refl, sym, _∙_, ap}
 use mathlib.Core.Bool.{Bool, true, false, _&&_}
-use mathlib.Core.List.{List, [], _∷_, _++_, append-assoc}
+use mathlib.Core.List.{List, _++_, append-assoc}
 use mathlib.Core.Logic.{_⊎_, inl, inr}
 use native.Mathlib.Nat.{sub-zero}
 use native.Mathlib.Omega.{arith}
 use lib.Dec.{eqb, ltb, leb}
 use lib.ListN.{length, getD, take, drop, length-append, length-take, length-drop}
 use lib.Seq.{take-at, length-take-le}
-use Rattle.tables.specs.Limits.{batchLimit, digitLimit}
+use Rattle.tables.specs.Limits.{digitLimit}
 use Rattle.tables.specs.Checks.{_then_, test, refuse, each, outputCheck}
 use Rattle.tables.specs.declared.refusal.Refusal.{Refusal}
 use Rattle.tables.specs.declared.refusal.Checked.{Checked}
 use Rattle.tables.specs.declared.refusal.Checked.the-variants.{Fine, Refused}
 use Rattle.tables.proofs.Accepted.{then-first}
 use Rattle.sizes.proofs.Branches.{output-long}
-use Rattle.selection.proofs.Lists.{length-behind}
 use Rattle.digits.specs.Digits.{digitOf, wordsOf}
 use Rattle.digits.proofs.Returning.{length-wordsOf}
 use Rattle.lines.specs.Lines.{characterCheck, lineCheck, ReadAs}

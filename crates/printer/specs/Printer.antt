@@ -4,9 +4,9 @@ use mathlib.Core.Path.{_≡_}
 use mathlib.Core.Bool.{cond}
 use mathlib.Core.List.{List, [], _∷_, _++_}
 use lib.Dec.{eqb, leb}
-use lib.ListN.{length, getD, drop}
+use lib.ListN.{length, getD}
 use Rattle.tables.specs.Limits.{batchLimit}
-use Rattle.tables.specs.Checks.{_then_, test, refuse, outputCheck}
+use Rattle.tables.specs.Checks.{_then_, test, refuse}
 use Rattle.tables.specs.declared.refusal.Refusal.{Refusal}
 use Rattle.tables.specs.declared.refusal.Checked.{Checked}
 use Rattle.tables.specs.declared.refusal.Checked.the-variants as checked
@@ -16,10 +16,10 @@ use Rattle.parts.specs.Parts.{part}
 use Rattle.frames.specs.Frames.{kind, endOf, frameCheck}
 use Rattle.batches.specs.Batches.{batchOf}
 use Rattle.batch.specs.Batch.{WordIs}
-use Rattle.digits.specs.Digits.{wordsOf, lineOf}
+use Rattle.digits.specs.Digits.{wordsOf}
 use Rattle.lines.specs.Lines.{lineCheck}
-use Rattle.printer.specs.declared.Printed.{Printed}
-use Rattle.printer.specs.declared.Printed.the-variants.{Refused, Bytes}
+use Rattle.printing.specs.Printing.{threeOf, planText, Answered}
+use Rattle.printing.specs.declared.Printed.{Printed}
 
 -- the first line feed at or behind a place, of so many bytes; behind them where there is none
 unfoldable pub feedFrom : List ℕ → ℕ → ℕ → ℕ
@@ -60,25 +60,10 @@ pub data Lines (s : List ℕ) : ℕ → ℕ → List ℕ → List ℕ → Outcom
 pub record PlanIs (b plan : List ℕ) : Type 0 where
   pub words : {k : ℕ} {f : Frame (List ℕ) Update} → At (batchOf b) k f → WordIs (batchOf b) k f (getD plan k 0)
 
--- three words as a line, with its line feed
-unfoldable pub threeOf : ℕ → ℕ → ℕ → List ℕ
-threeOf a b c = lineOf (a ∷ b ∷ c ∷ []) ++ (10 ∷ [])
-
--- a line a frame, of the first n: kind, frame number from 1, plan word
-unfoldable pub planText : List ℕ → List ℕ → ℕ → List ℕ
-planText kinds plan zero = []
-planText kinds plan (suc n) = planText kinds plan n ++ threeOf (getD kinds n 0) (n + 1) (getD plan n 0)
-
 -- what is printed: at a refusal only FFFF, the line number and the refusal number; else the plan
 pub data Prints (s : List ℕ) : List ℕ → Type 0 where
   refusal : {line : ℕ} {r : Refusal} → Lines s 0 0 [] [] (stopped line r) → Prints s (threeOf 65535 line (r .number))
   plan : {b kinds plan : List ℕ} → Lines s 0 0 [] [] (taken b kinds) → PlanIs b plan → Prints s (planText kinds plan (length kinds))
-
--- a text is written: 7 when there is too little room; the text at the front, all behind it stays
-abbrev pub Answered : List ℕ → List ℕ → List ℕ → Printed → Type 0
-Answered text before after (Refused r) = (outputCheck (length text) (length before) ≡ checked.Refused r) × (after ≡ before)
-Answered text before after (Bytes n) =
-    (outputCheck (length text) (length before) ≡ checked.Fine) × (n ≡ length text) × (after ≡ text ++ drop n before)
 
 -- what printing promises
 pub record PrintedAs (s before after : List ℕ) (answer : Printed) : Type 0 where

@@ -3,12 +3,12 @@ use Prim.Native.Nat.{ℕ, _+_, _/_, _≤_}
 use mathlib.Core.Path.{_≡_}
 use mathlib.Core.List.{List, [], _++_}
 use lib.ListN.{length, take}
-use Rattle.tables.specs.Limits.{batchLimit, digitLimit, frameLimit}
+use Rattle.tables.specs.Limits.{batchLimit, digitLimit}
 use Rattle.tables.specs.declared.refusal.Checked.the-variants as checked
 use Rattle.digits.specs.Digits.{wordsOf}
-use Rattle.batches.specs.Batches.{planCheck}
-use Rattle.printer.specs.Printer.{takeCheck, stopped, taken, Lines, PlanIs, planText, Answered}
-use Rattle.printer.specs.declared.Printed.{Printed}
+use Rattle.printing.specs.Printing.{planText, Answered}
+use Rattle.printing.specs.declared.Printed.{Printed}
+use Rattle.printer.specs.Printer.{takeCheck, stopped, taken, Lines, PlanIs}
 use Rattle.printer.specs.declared.Taken.{Taken}
 use Rattle.printer.specs.declared.Taken.the-variants as took
 use Rattle.printer.specs.declared.Ran.{Ran}
@@ -30,16 +30,11 @@ TakenAs l n used before after (took.Words w) =
 
 -- all lines taken, with the frames and the words in use; or the first refusal
 abbrev pub RanAs : List ℕ → List ℕ → List ℕ → Ran → Type 0
-RanAs s batch kinds (ran.Stopped x) = Lines s 0 0 [] [] (stopped (x .line) (x .why))
-RanAs s batch kinds (ran.All x) =
-    Lines s 0 0 [] [] (taken (take (x .words) batch) (take (x .frames) kinds))
-    × (x .words ≤ length batch)
-    × (x .frames ≤ length kinds)
-
--- an accepted batch of so many frames
-pub record Plannable (b kinds : List ℕ) : Type 0 where
-  pub accepted : planCheck b frameLimit ≡ checked.Fine
-  pub few : length kinds ≤ frameLimit
+RanAs s batch kinds (ran.Stopped line why) = Lines s 0 0 [] [] (stopped line why)
+RanAs s batch kinds (ran.All frames words) =
+    Lines s 0 0 [] [] (taken (take words batch) (take frames kinds))
+    × (words ≤ length batch)
+    × (frames ≤ length kinds)
 
 -- the plan of a batch is printed
 pub record PlanPrinted (b kinds before after : List ℕ) (answer : Printed) : Type 0 where

@@ -2,8 +2,9 @@
 use batch::plan::plan;
 use lines::Parsed;
 use lines::read_line;
-use sizes::output;
-use spelling::write_line;
+use printing::Printed;
+use printing::print_frames;
+use printing::print_refusal;
 use tables::limits::BATCH_LIMIT;
 use tables::limits::DIGIT_LIMIT;
 use tables::limits::FRAME_LIMIT;
@@ -11,19 +12,14 @@ use tables::refusal::Checked;
 use tables::refusal::Refusal;
 use tables::words::byte;
 use whole::frame_checked;
-ghost use Prim.Native.Nat.{_+_, _*_, _/_, _<_, _≤_};
+ghost use Prim.Native.Nat.{_+_, _/_, _≤_};
 ghost use mathlib.Core.Path.{_≡_};
-ghost use mathlib.Core.List.{_++_};
-ghost use lib.ListN.{length, drop, take};
-ghost use Rattle.tables.specs.Limits.{batchLimit, digitLimit, frameLimit, wordLimit};
-ghost use Rattle.printer.specs.Printer.{lineEnd, threeOf, planText, Answered, PrintedAs};
-ghost use Rattle.printer.specs.Reading.{Roomy, TakenAs, RanAs, Plannable, PlanPrinted};
-
-// What printing answers: how many bytes it wrote.
-pub enum Printed {
-    Refused(Refusal),
-    Bytes(usize),
-}
+ghost use lib.ListN.{length};
+ghost use Rattle.tables.specs.Limits.{batchLimit, digitLimit, frameLimit};
+ghost use Rattle.tables.specs.declared.refusal.Checked.the-variants.{Fine};
+ghost use Rattle.batches.specs.Batches.{planCheck};
+ghost use Rattle.printer.specs.Printer.{lineEnd, PrintedAs};
+ghost use Rattle.printer.specs.Reading.{Roomy, TakenAs, RanAs, PlanPrinted};
 
 // What taking a line answers: how many words are in use behind it.
 enum Taken {
@@ -31,22 +27,10 @@ enum Taken {
     Words(usize),
 }
 
-// The line at which the lines end, and why.
-struct Stop {
-    line: usize,
-    why: Refusal,
-}
-
-// Frames and words in use.
-struct Extent {
-    frames: usize,
-    words: usize,
-}
-
-// How the lines end.
+// How the lines end: at which line and why; or all are taken, with the frames and the words in use.
 enum Ran {
-    Stopped(Stop),
-    All(Extent),
+    Stopped(usize, Refusal),
+    All(usize, usize),
 }
 
 // Where the line ends that begins at a place.
@@ -96,7 +80,7 @@ fn read_lines(s: &[u8], batch: &mut [u16], kinds: &mut [u16]) -> Ran
     while at < s.len() {
         let end = line_end(s, at);
         match take_line(&s[at..end], n, used, batch) {
-            Taken::Refused(why) => return Ran::Stopped(Stop { line: n + 1, why }),
+            Taken::Refused(why) => return Ran::Stopped(n + 1, why),
             Taken::Words(words) => {
                 kinds[n] = batch[used];
                 used = words;
@@ -105,72 +89,22 @@ fn read_lines(s: &[u8], batch: &mut [u16], kinds: &mut [u16]) -> Ran
             }
         }
     }
-    Ran::All(Extent {
-        frames: n,
-        words: used,
-    })
+    Ran::All(n, used)
 }
 
-// Three words as a line, with its line feed, at the front.
-fn write_three(a: u16, b: u16, c: u16, out: &mut [u8])
-    requires { ⌜ 13 ≤ length (now out) ⌝ }
-    ensures { λ _. ⌜ now (out .exit) ≡ threeOf a b c ++ drop 13 (now (out .entry)) ⌝ }
+// Room for a word a frame.
+fn places() -> [u16; FRAME_LIMIT]
+    ensures { λ t. ⌜ length t ≡ frameLimit ⌝ }
 {
-    let words = [a, b, c];
-    write_line(&words, out);
-    out[12] = 10;
-}
-
-// A line a frame, at the front.
-fn write_plan(kinds: &[u16], words: &[u16], n: usize, out: &mut [u8])
-    requires { ⌜ (n ≤ frameLimit) × (n ≤ length (now kinds)) × (n ≤ length (now words)) ⌝ }
-    requires { ⌜ 13 * n ≤ length (now out) ⌝ }
-    ensures { λ _. ⌜ now (out .exit) ≡ planText (now (kinds .entry)) (now (words .entry)) n ++ drop (13 * n) (now (out .entry)) ⌝ }
-{
-    let mut k = 0;
-    while k < n {
-        let kind = kinds[k];
-        let word = words[k];
-        write_three(kind, (k + 1) as u16, word, &mut out[13 * k..]);
-        k += 1;
-    }
-}
-
-// FFFF, the line number and the refusal number.
-fn print_refusal(line: usize, number: usize, out: &mut [u8]) -> Printed
-    requires { ⌜ (line < wordLimit) × (number < wordLimit) ⌝ }
-    ensures { λ r. ⌜ Answered (threeOf 65535 line number) (now (out .entry)) (now (out .exit)) r ⌝ }
-{
-    match output(13, out.len()) {
-        Checked::Refused(r) => Printed::Refused(r),
-        Checked::Fine => {
-            write_three(65535, line as u16, number as u16, out);
-            Printed::Bytes(13)
-        }
-    }
-}
-
-// A line a frame, where there is room for them all.
-fn print_frames(kinds: &[u16], words: &[u16], out: &mut [u8]) -> Printed
-    requires { ⌜ (length (now kinds) ≤ frameLimit) × (length (now kinds) ≤ length (now words)) ⌝ }
-    ensures { λ r. ⌜ Answered (planText (now (kinds .entry)) (now (words .entry)) (length (now (kinds .entry)))) (now (out .entry)) (now (out .exit)) r ⌝ }
-{
-    let n = kinds.len();
-    match output(13 * n, out.len()) {
-        Checked::Refused(r) => Printed::Refused(r),
-        Checked::Fine => {
-            write_plan(kinds, words, n, out);
-            Printed::Bytes(13 * n)
-        }
-    }
+    [0; FRAME_LIMIT]
 }
 
 // The plan of an accepted batch.
 fn print_plan(b: &[u16], kinds: &[u16], out: &mut [u8]) -> Printed
-    requires { ⌜ Plannable (now b) (now kinds) ⌝ }
+    requires { ⌜ planCheck (now b) frameLimit ≡ Fine ⌝ }
     ensures { λ r. ⌜ PlanPrinted (now (b .entry)) (now (kinds .entry)) (now (out .entry)) (now (out .exit)) r ⌝ }
 {
-    let mut words = [0; FRAME_LIMIT];
+    let mut words = places();
     plan(b, &mut words);
     print_frames(kinds, &words, out)
 }
@@ -190,13 +124,9 @@ pub fn print(input: &[u8], out: &mut [u8]) -> Printed
     ensures { λ r. ⌜ PrintedAs (now (input .entry)) (now (out .entry)) (now (out .exit)) r ⌝ }
 {
     let mut batch = room();
-    let mut kinds = [0; FRAME_LIMIT];
+    let mut kinds = places();
     match read_lines(input, &mut batch, &mut kinds) {
-        Ran::Stopped(stop) => print_refusal(stop.line, stop.why.number, out),
-        Ran::All(all) => {
-            let words = all.words;
-            let frames = all.frames;
-            print_plan(&batch[0..words], &kinds[0..frames], out)
-        }
+        Ran::Stopped(line, why) => print_refusal(line, why.number, out),
+        Ran::All(frames, words) => print_plan(&batch[0..words], &kinds[0..frames], out),
     }
 }

@@ -1,6 +1,6 @@
 -- How the lines end decides what is printed.
 use borrow.Author.Needs.{needs}
-use Rattle.printer.proofs.Promise.{stop-words, stop-prints, all-words, all-frames, all-plannable, all-prints}
+use Rattle.printer.proofs.Promise.{stop-prints, all-words, all-frames, all-planned, all-prints}
 use Rattle.printer.proofs.print.Statement.{statement}
 use Rattle.printer.proofs.print.Tie as tie
 
@@ -9,20 +9,21 @@ print-spec =
     tie.close
     (tie.spec
     (λ c κs. search needs)
+    (λ c κs. search needs)
     (λ c. search needs)
     (λ c. search needs)
     (λ c κs. search needs)
     (λ c. search needs)
-    (λ c κs. stop-words (c .before .before .before .before .before .before .before .before .before .before .before .before .args .input .now) (c .before .before .before .before .before .before .read-lines .last .1 .0) (c .before .before .before .before .before .before .read-lines .last .1 .1 .0) (c .before .before .before .before .before .before .read-lines .result) (c .before .before .before .before .before .before .read-lines .ensures) (c .before .before .stop .given .1))
+    (λ c κs. search needs)
     (λ c. search needs)
     (λ c. search needs)
     (λ c. search needs)
-    (λ c. all-words (c .before .before .before .before .before .before .before .before .before .before .before .before .args .input .now) (c .before .before .before .before .before .before .read-lines .last .1 .0) (c .before .before .before .before .before .before .read-lines .last .1 .1 .0) (c .before .before .before .before .before .before .read-lines .result) (c .before .before .before .before .before .before .read-lines .ensures) (c .before .before .all .given .1))
+    (λ c. all-words (c .before .before .before .before .before .before .before .before .before .before .before .before .before .args .input .now) (c .before .before .before .before .before .before .read-lines .last .1 .0) (c .before .before .before .before .before .before .read-lines .last .1 .1 .0) (c .before .before .before .before .before .before .read-lines .result) (c .before .before .before .before .before .before .read-lines .ensures) (c .before .before .frames .given .1))
     (λ c. search needs)
     (λ c. search needs)
-    (λ c. all-frames (c .before .before .before .before .before .before .before .before .before .before .before .before .before .before .args .input .now) (c .before .before .before .before .before .before .before .before .read-lines .last .1 .0) (c .before .before .before .before .before .before .before .before .read-lines .last .1 .1 .0) (c .before .before .before .before .before .before .before .before .read-lines .result) (c .before .before .before .before .before .before .before .before .read-lines .ensures) (c .before .before .before .before .all .given .1))
-    (λ c κs. all-plannable (c .before .before .before .before .before .before .before .before .before .before .before .before .before .before .before .before .args .input .now) (c .before .before .before .before .before .before .before .before .before .before .read-lines .last .1 .0) (c .before .before .before .before .before .before .before .before .before .before .read-lines .last .1 .1 .0) (c .before .before .before .before .before .before .before .before .before .before .read-lines .result) (c .before .before .before .before .before .before .before .before .before .before .read-lines .ensures) (c .before .before .before .before .before .before .all .given .1))
+    (λ c. all-frames (c .before .before .before .before .before .before .before .before .before .before .before .before .before .before .before .args .input .now) (c .before .before .before .before .before .before .before .before .read-lines .last .1 .0) (c .before .before .before .before .before .before .before .before .read-lines .last .1 .1 .0) (c .before .before .before .before .before .before .before .before .read-lines .result) (c .before .before .before .before .before .before .before .before .read-lines .ensures) (c .before .before .before .before .frames .given .1))
+    (λ c κs. all-planned (c .before .before .before .before .before .before .before .before .before .before .before .before .before .before .before .before .before .args .input .now) (c .before .before .before .before .before .before .before .before .before .before .read-lines .last .1 .0) (c .before .before .before .before .before .before .before .before .before .before .read-lines .last .1 .1 .0) (c .before .before .before .before .before .before .before .before .before .before .read-lines .result) (c .before .before .before .before .before .before .before .before .before .before .read-lines .ensures) (c .before .before .before .before .before .before .frames .given .1))
     (λ c. search needs)
-    (λ c. stop-prints (c .before .before .before .before .before .before .before .before .before .before .before .before .before .before .before .args .input .now) (c .before .before .before .before .before .before .before .before .before .read-lines .last .1 .0) (c .before .before .before .before .before .before .before .before .before .read-lines .last .1 .1 .0) (c .before .before .before .before .before .before .before .before .before .read-lines .result) (c .before .before .before .before .before .before .before .before .before .read-lines .ensures) (c .before .before .before .before .before .stop .given .1) (c .before .before .print-refusal .ensures))
+    (λ c. stop-prints (c .before .before .before .before .before .before .before .before .before .before .before .before .before .before .before .before .args .input .now) (c .before .before .before .before .before .before .before .before .before .read-lines .last .1 .0) (c .before .before .before .before .before .before .before .before .before .read-lines .last .1 .1 .0) (c .before .before .before .before .before .before .before .before .before .read-lines .result) (c .before .before .before .before .before .before .before .before .before .read-lines .ensures) (c .before .before .before .before .before .line .given .1) (c .before .before .print-refusal .ensures))
     (λ c. search needs)
-    (λ c. all-prints (c .before .before .before .before .before .before .before .before .before .before .before .before .before .before .before .before .before .before .before .args .input .now) (c .before .before .before .before .before .before .before .before .before .before .before .before .before .read-lines .last .1 .0) (c .before .before .before .before .before .before .before .before .before .before .before .before .before .read-lines .last .1 .1 .0) (c .before .before .before .before .before .before .before .before .before .before .before .before .before .read-lines .result) (c .before .before .before .before .before .before .before .before .before .before .before .before .before .read-lines .ensures) (c .before .before .before .before .before .before .before .before .before .all .given .1) (c .before .before .print-plan .ensures)))
+    (λ c. all-prints (c .before .before .before .before .before .before .before .before .before .before .before .before .before .before .before .before .before .before .before .before .args .input .now) (c .before .before .before .before .before .before .before .before .before .before .before .before .before .read-lines .last .1 .0) (c .before .before .before .before .before .before .before .before .before .before .before .before .before .read-lines .last .1 .1 .0) (c .before .before .before .before .before .before .before .before .before .before .before .before .before .read-lines .result) (c .before .before .before .before .before .before .before .before .before .before .before .before .before .read-lines .ensures) (c .before .before .before .before .before .before .before .before .before .frames .given .1) (c .before .before .print-plan .ensures)))

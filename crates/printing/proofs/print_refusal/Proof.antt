@@ -1,18 +1,16 @@
 -- The room first; then the line is written, or nothing changes.
 use borrow.Author.Needs.{needs}
-use Rattle.printer.specs.Printer.{threeOf}
-use Rattle.printer.proofs.Texts.{length-threeOf}
-use Rattle.printer.proofs.Promise.{text-room, text-refused, text-bytes}
-use Rattle.printer.proofs.print_refusal.Statement.{statement}
-use Rattle.printer.proofs.print_refusal.Tie as tie
+use Rattle.printing.specs.Printing.{threeOf}
+use Rattle.printing.proofs.Texts.{length-threeOf}
+use Rattle.printing.proofs.Promise.{text-room, text-refused, text-bytes}
+use Rattle.printing.proofs.print_refusal.Statement.{statement}
+use Rattle.printing.proofs.print_refusal.Tie as tie
 
 pub print-refusal-spec : {M : Type 1} → statement M
 print-refusal-spec =
     tie.close
     (tie.spec
     (λ c κs. search needs)
-    (λ c. search needs)
-    (λ c. search needs)
     (λ c. search needs)
     (λ c. search needs)
     (λ c κs. text-room (threeOf 65535 (c .before .before .before .before .before .args .line) (c .before .before .before .before .before .args .number)) (c .before .before .before .before .before .args .out .now) (length-threeOf 65535 (c .before .before .before .before .before .args .line) (c .before .before .before .before .before .args .number)) (c .before .before .before .output .ensures) (c .before .enum-told .given .1))

@@ -1,0 +1,3 @@
+-- Laws of printed lines.
+pub mod Texts
+pub mod Promise

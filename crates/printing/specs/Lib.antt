@@ -1,0 +1,2 @@
+-- What a reader must believe of printed lines.
+pub mod Printing
