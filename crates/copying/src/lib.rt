@@ -1,5 +1,6 @@
 // One copy of a tree into the free rest of a document, under a node of it.
 use tables::limits::USED_LIMIT;
+use tables::limits::WORD_LIMIT;
 use tables::words::first_word;
 ghost use Prim.Native.Nat.{_+_, _*_, _/_, _%_, min, _≤_};
 ghost use mathlib.Core.Path.{_≡_};
@@ -12,9 +13,6 @@ ghost use Rattle.tables.specs.Documents.{doc};
 ghost use Rattle.selection.specs.Lists.{tab};
 ghost use Rattle.selection.specs.Operations.{copiedParent, copyWords};
 ghost use Rattle.copying.specs.Copying.{held, copied, Copyable};
-
-// A word has 16 bits.
-const WORD_LIMIT: usize = 65536;
 
 // The parent word of node k of a copy: its root hangs under q, every other node under the copy of its parent.
 fn hung(x: &[u16], q: usize, base: usize, k: usize) -> u16

@@ -1,6 +1,6 @@
 -- The bytes of the states: what an accepted read and tree give, and what is written of the climbed rows.
 use Prim.Native.Nat.{ℕ, pred, _+_, _*_, _<_, _≤_}
-use mathlib.Core.Path.{_≡_, refl, _∙_}
+use mathlib.Core.Path.{_≡_, _∙_}
 use mathlib.Core.Bool.{Bool, true, false}
 use mathlib.Core.List.{List, [], _++_, append-nil}
 use native.Mathlib.Decide.{decLt}
@@ -12,13 +12,12 @@ use Rattle.tables.specs.Words.{steps, nodes}
 use Rattle.tables.specs.declared.refusal.Refusal.{Refusal}
 use Rattle.tables.specs.declared.refusal.Checked.{Checked}
 use Rattle.tables.specs.declared.refusal.Checked.the-variants.{Fine, Refused}
-use Rattle.tables.specs.Checks.{_then_, each, sizeCheck, patternCheck, nodeCheck, treeCheck}
+use Rattle.tables.specs.Checks.{each, sizeCheck, patternCheck, nodeCheck, treeCheck}
 use Rattle.tables.proofs.Accepted.{then-first, then-second}
 use Rattle.tables.proofs.Soundness.{accepted-pattern, accepted-steps, accepted-nodes, accepted-some, node-falls}
 use Rattle.selection.specs.Ways.{last}
 use Rattle.selection.specs.Lists.{tab}
 use Rattle.selection.proofs.Lists.{length-tab}
-use Rattle.conflict.specs.Crossing.{enters}
 use Rattle.entering.specs.Climbing.{Fitting, leaves, Blank, Climbed}
 use Rattle.entering.specs.Entering.{enteringCheck, entered, stateByte}
 use Rattle.entering.proofs.Climbing.{root-is}

@@ -10,7 +10,7 @@ use lib.ListN.{length, drop, getD}
 use borrow.Author.Tests.{ne-eqb, le-leb, lt-leb}
 use Rattle.tables.specs.Limits.{wordLimit, place}
 use Rattle.tables.specs.Words.{steps}
-use Rattle.conflict.specs.Meeting.{sooner, shorter, meetingOf, fewestOf}
+use Rattle.conflict.specs.Meeting.{sooner, shorter, meetingOf}
 use Rattle.conflict.specs.Crossing.{chain}
 use Rattle.conflict.proofs.Shortest.{length-meetingOf, fewestOf-most}
 use Rattle.admission.specs.Order.{needed}

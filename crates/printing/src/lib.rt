@@ -1,6 +1,7 @@
 // Printed lines: three words and a line feed each. A refusal's line, or a line a frame.
 use sizes::output;
 use spelling::write_line;
+use tables::limits::WORD_LIMIT;
 use tables::refusal::Checked;
 use tables::refusal::Refusal;
 use tables::words::word;
@@ -21,7 +22,7 @@ pub enum Printed {
 fn low(n: usize) -> u16
     ensures { λ r. ⌜ r ≡ n % wordLimit ⌝ }
 {
-    (n % 65536) as u16
+    (n % WORD_LIMIT) as u16
 }
 
 // Three numbers as a line, with its line feed, at the front.

@@ -21,3 +21,6 @@ pub const BATCH_LIMIT: usize = 16384;
 
 // Digits of a line.
 pub const DIGIT_LIMIT: usize = 2572;
+
+// Numbers that a word can hold.
+pub const WORD_LIMIT: usize = 65536;

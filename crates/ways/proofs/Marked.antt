@@ -1,16 +1,15 @@
 -- From the shortest way over the marked states to the ways that show a conflict.
-use Prim.Native.Nat.{ℕ, zero, suc, pred, _*_, _-_, _<_, _≤_}
-use mathlib.Core.Path.{_≡_, refl, sym, _∙_, ap}
+use Prim.Native.Nat.{ℕ, zero, suc, pred, _-_, _<_, _≤_}
+use mathlib.Core.Path.{_≡_, refl, _∙_, ap}
 use mathlib.Core.Bool.{Bool, true, false, _&&_, cond}
-use mathlib.Core.List.{List, [], _∷_, _++_}
+use mathlib.Core.List.{List, [], _∷_}
 use native.Mathlib.Omega.{arith}
-use lib.Dec.{eqb, ltb, leb}
-use lib.ListN.{length, drop, getD, set, replicate, length-replicate, getD-replicate}
+use lib.Dec.{eqb, ltb}
+use lib.ListN.{length, getD, set, replicate, length-replicate, getD-replicate}
 use lib.Seq.{getD-set-same, getD-set-other}
 use borrow.Author.Tests.{ne-eqb, lt-ltb, le-ltb, le-leb}
 use Rattle.tables.specs.Limits.{stepLimit, treeLimit}
 use Rattle.tables.specs.Words.{steps}
-use Rattle.tables.specs.declared.refusal.Checked.{Checked}
 use Rattle.tables.specs.declared.refusal.Checked.the-variants.{Fine}
 use Rattle.tables.specs.Checks.{patternCheck, treeCheck}
 use Rattle.tables.proofs.Accepted.{then-both}
@@ -18,10 +17,10 @@ use Rattle.selection.specs.Ways.{last}
 use Rattle.selection.specs.Lists.{tab}
 use Rattle.selection.proofs.Lists.{getD-tab}
 use Rattle.conflict.specs.Meeting.{sooner, shorter, meetingOf, fewestOf}
-use Rattle.conflict.specs.Crossing.{chain, enters, entering, deleteWay, insertWay}
+use Rattle.conflict.specs.Crossing.{enters, entering, deleteWay, insertWay}
 use Rattle.conflict.proofs.Shortest.{length-meetingOf}
 use Rattle.admission.specs.Admitted.{Bounded}
-use Rattle.admission.specs.Order.{needed, patternsCheck, deepInsertCheck, deleteCheck, insertCheck}
+use Rattle.admission.specs.Order.{needed, patternsCheck, deleteCheck, insertCheck}
 use Rattle.admission.proofs.Accepting.{read-fine, patterns-bounded, delete-patterns, delete-bounded, delete-deep, delete-room, insert-patterns, insert-bounded, insert-tree, insert-deep, insert-room}
 use Rattle.entering.specs.Entering.{enteringCheck, entered, stateByte}
 use Rattle.meeting.specs.Met.{markedWay, nearest, met, Met}
@@ -48,7 +47,7 @@ insert-bounds r p x words e = insert-bounded r p x (insert-deep r p words x e)
 pub last-inside : {r p : List ℕ} {i : ℕ} → Bounded r p → i ≡ steps r - 1 → i < stepLimit
 last-inside b e = omega (arith, b .reads-some, b .reads)
 
--- nothing is shorter than something, and something than nothing
+-- of a way and none the shorter is the way
 shorter-none : (w : List ℕ) → shorter w [] ≡ w
 unfolding shorter sooner
 shorter-none [] = refl

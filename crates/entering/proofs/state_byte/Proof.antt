@@ -11,5 +11,5 @@ state-byte-spec =
     (λ c. search needs)
     (λ c. search byte-last)
     (λ c κs. search needs)
-    (λ c. search byte-on)
-    (λ c. search byte-off))
+    (λ c. let here = c .before .before .before .before .before .before .pre in byte-on _ _ _ _ (here .0) (here .1 .0) (c .before .before .if1 .left) (c .before .leaving .ensures) (c .if2 .taken))
+    (λ c. let here = c .before .before .before .before .before .before .pre in byte-off _ _ _ _ (here .0) (here .1 .0) (c .before .before .if1 .left) (c .before .leaving .ensures) (c .if2 .left)))

@@ -16,4 +16,4 @@ shortest-delete-spec =
     (λ c. search needs)
     (λ c κs. search needs)
     (λ c. search needs)
-    (λ c. search delete-written))
+    (λ c. delete-written _ _ _ _ _ (c .before .before .before .before .before .before .before .before .before .pre) refl refl (c .before .before .before .before .before .only .ensures) (c .before .before .meet .ensures)))

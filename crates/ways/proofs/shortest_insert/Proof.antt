@@ -1,4 +1,5 @@
 -- The way of the update's last state and those from which the read enters the tree.
+use mathlib.Core.Path.{refl}
 use native.Mathlib.Omega.{arith}
 use Rattle.ways.proofs.Marked.{insert-bounds, insert-written}
 use borrow.Author.Needs.{needs}
@@ -14,4 +15,4 @@ shortest-insert-spec =
     (λ c. search needs)
     (λ c κs. search needs)
     (λ c. search needs)
-    (λ c. search insert-written))
+    (λ c. insert-written _ _ _ _ _ _ (c .before .before .before .before .before .before .before .before .before .before .pre) refl (c .before .before .before .before .before .entering-states .ensures) (c .before .before .meet .ensures)))

@@ -18,4 +18,4 @@ touch-found-spec =
     (λ c. search needs)
     (λ c. search needs)
     (λ c κs. search needs)
-    (λ c. search touch-more))
+    (λ c. touch-more _ _ _ _ _ (c .before .before .before .before .before .before .before .before .pre) (c .before .before .before .before .before .if1 .left) refl (c .before .before .before .before .only .ensures) (c .before .meet .ensures)))

@@ -18,7 +18,6 @@ Inv-loop r x v rows₀ k₀ rows k =
 abbrev μ-loop : tie.MeasureT-loop
 μ-loop r x v rows₀ k₀ rows k = k
 
--- src/rows.rt:105:5
 loop-again : tie.Need-loop-again Inv-loop μ-loop
 loop-again c = (
   omega arith,

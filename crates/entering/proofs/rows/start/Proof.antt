@@ -19,7 +19,6 @@ Inv-loop r x rows₀ n end v₀ rows v =
 abbrev μ-loop : tie.MeasureT-loop
 μ-loop r x rows₀ n end v₀ rows v = n - v
 
--- src/rows.rt:78:5
 loop-again : tie.Need-loop-again Inv-loop μ-loop
 loop-again c =
     let at = c .before .before .before .before .before .loop .inv in (

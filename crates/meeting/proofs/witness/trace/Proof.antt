@@ -24,7 +24,7 @@ trace-spec =
     (tie.spec
     Inv-loop
     μ-loop
-    (λ c. search rest-all)
+    (λ c. rest-all _ _ _ _ _ _ _ _ _ (c .before .before .before .before .pre))
     (λ c κs. search rest-next)
     (λ c. search needs)
     (λ c κs. search needs)
