@@ -105,8 +105,12 @@ fn written(line: &[u8], m: &mut [u8], n: usize) -> usize {
     n
 }
 
-// Shows a table that a call can change.
+// Prints a heading as it stands, or shows a table that a call can change.
 fn reveal(line: &[u8], t: &[u16], m: &[u8], y: &[u8], s: Sizes) {
+    if begins(line, b':') {
+        show::heading(rest(line));
+        return;
+    }
     if same(line, b"=t") {
         show::table(b"  t", front(t, s.t));
         return;
@@ -213,14 +217,6 @@ fn called(
     )
 }
 
-// A heading, printed as it stands.
-fn heading(line: &[u8]) {
-    if begins(line, b':') {
-        show::text(rest(line));
-        show::text(b"\n");
-    }
-}
-
 // Fills the table of the letter that a line begins with.
 fn refilled(
     line: &[u8],
@@ -257,29 +253,23 @@ fn obeyed(
     y: &mut [u8],
     s: Sizes,
 ) -> Sizes {
-    heading(line);
     let u = called(line, r, p, x, t, m, y, s);
     reveal(line, t, m, y, s);
     refilled(line, r, p, x, t, m, y, s, u)
 }
 
-// The part of a text from one place to another.
-fn between(text: &[u8], from: usize, to: usize) -> &[u8] {
-    if text.len() < to {
-        return &text[0..0];
+// The line that ends at this place, empty where none does.
+fn line_at(input: &[u8], from: usize, i: usize) -> &[u8] {
+    if input.len() <= i {
+        return &input[0..0];
     }
-    if to < from {
-        return &text[0..0];
+    if i < from {
+        return &input[0..0];
     }
-    &text[from..to]
-}
-
-// Whether a line ends at this place.
-fn ends(input: &[u8], i: usize) -> bool {
-    if i < input.len() {
-        return input[i] == b'\n';
+    if input[i] != b'\n' {
+        return &input[0..0];
     }
-    false
+    &input[from..i]
 }
 
 // Where the next line begins, if one ends here.
@@ -290,25 +280,6 @@ fn start(input: &[u8], from: usize, i: usize) -> usize {
         }
     }
     from
-}
-
-// What the line that ends here asks for.
-fn obeyed_at(
-    input: &[u8],
-    from: usize,
-    i: usize,
-    r: &mut [u16],
-    p: &mut [u16],
-    x: &mut [u16],
-    t: &mut [u16],
-    m: &mut [u8],
-    y: &mut [u8],
-    s: Sizes,
-) -> Sizes {
-    if ends(input, i) {
-        return obeyed(between(input, from, i), r, p, x, t, m, y, s);
-    }
-    s
 }
 
 // Every line that ends in a line feed.
@@ -336,7 +307,7 @@ fn each(
     while i < input.len() {
         let at = i;
         i += 1;
-        s = obeyed_at(input, from, at, r, p, x, t, m, y, s);
+        s = obeyed(line_at(input, from, at), r, p, x, t, m, y, s);
         from = start(input, from, at);
     }
 }

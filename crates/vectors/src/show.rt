@@ -8,6 +8,11 @@ pub(crate) fn text(s: &[u8]) {
     io::write_all(STDOUT_FILENO, s);
 }
 
+pub(crate) fn heading(s: &[u8]) {
+    text(s);
+    text(b"\n");
+}
+
 // A space and a number.
 fn number(n: usize) {
     text(b" ");
