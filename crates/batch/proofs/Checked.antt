@@ -3,13 +3,11 @@ use Prim.Native.Nat.{ℕ}
 use mathlib.Core.Path.{_≡_}
 use mathlib.Core.List.{List}
 use native.Mathlib.Omega.{arith}
-use lib.Dec.{leb}
 use lib.ListN.{length}
-use borrow.Author.Tests.{leb-true}
 use Rattle.tables.specs.Checks.{outputCheck}
 use Rattle.tables.specs.declared.refusal.Refusal.{Refusal}
 use Rattle.tables.specs.declared.refusal.Checked.the-variants as checked
-use Rattle.tables.proofs.Accepted.{held, then-first, then-second}
+use Rattle.tables.proofs.Accepted.{then-first, then-second, output-room}
 use Rattle.batches.specs.Batches.{batchOf, batchCheck, planCheck, countedOf}
 use Rattle.batches.specs.declared.Counted.{Counted}
 use Rattle.batches.specs.declared.Counted.the-variants.{Refused, Frames}
@@ -28,13 +26,13 @@ module _ (b : List ℕ) (words : ℕ) {got : Counted} (e : got ≡ countedOf (pl
     plan-count = got-count (planCheck b words) (length (batchOf b)) e told
 
     pub plan-asks : Planning b n words
-    unfolding planCheck outputCheck
+    unfolding planCheck
     plan-asks = record {
       accepted = then-first (batchCheck b) (outputCheck (length (batchOf b)) words) plan-fine;
       frames = plan-count;
       room = omega (
         arith,
         plan-count,
-        leb-true (length (batchOf b)) words (held (leb (length (batchOf b)) words) _ (then-second (batchCheck b) (outputCheck (length (batchOf b)) words) plan-fine)),
+        output-room (length (batchOf b)) words (then-second (batchCheck b) (outputCheck (length (batchOf b)) words) plan-fine),
       );
     }

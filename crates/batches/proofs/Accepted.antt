@@ -16,7 +16,6 @@ use Rattle.tables.specs.declared.refusal.Checked.{Checked}
 use Rattle.tables.specs.declared.refusal.Checked.the-variants.{Fine, Refused}
 use Rattle.tables.proofs.Accepted.{held, then-first, then-second}
 use Rattle.tables.proofs.Soundness.{Words, accepted-pattern, accepted-tree}
-use Rattle.conflict.specs.Conflict.{delete, insert}
 use Rattle.order.specs.Running.{Fit, FitFrame}
 use Rattle.parts.specs.Parts.{part, count, placed, countCheck, stepsCheck, nodesCheck}
 use Rattle.frames.specs.Frames.{kind, treeAt, restCheck, frameCheck}

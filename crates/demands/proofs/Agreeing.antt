@@ -2,7 +2,7 @@
 use Prim.Native.Nat.{ℕ, _<_}
 use mathlib.Core.Path.{_≡_, refl, sym}
 use mathlib.Core.List.{List}
-use lib.ListN.{length, getD}
+use lib.ListN.{getD}
 use Rattle.tables.specs.Limits.{stepLimit, plainNodes}
 use Rattle.tables.specs.Words.{nodes}
 use Rattle.tables.specs.Documents.{doc, bare}

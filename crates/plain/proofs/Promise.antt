@@ -3,9 +3,7 @@ use Prim.Native.Nat.{ℕ, _≤_}
 use mathlib.Core.Path.{_≡_, refl, sym, _∙_, ap}
 use mathlib.Core.Bool.{cond}
 use mathlib.Core.List.{List, _++_}
-use lib.Dec.{leb}
 use lib.ListN.{length, drop}
-use borrow.Author.Tests.{leb-true}
 use Rattle.tables.specs.Limits.{plainSteps, plainNodes}
 use Rattle.tables.specs.Words.{nodes}
 use Rattle.tables.specs.Documents.{bare}
@@ -13,7 +11,7 @@ use Rattle.tables.specs.Checks.{_then_, patternCheck, treeCheck, outputCheck}
 use Rattle.tables.specs.declared.refusal.Refusal.{Refusal}
 use Rattle.tables.specs.declared.refusal.Checked.{Checked}
 use Rattle.tables.specs.declared.refusal.Checked.the-variants.{Fine, Refused}
-use Rattle.tables.proofs.Accepted.{held, then-first, then-second}
+use Rattle.tables.proofs.Accepted.{then-first, then-second, output-room}
 use Rattle.tables.proofs.Soundness.{Words, accepted-pattern, accepted-tree}
 use Rattle.selection.specs.Lists.{tab}
 use Rattle.selection.specs.Ways.{last, selected}
@@ -37,8 +35,7 @@ module _ (p t : List ℕ) (bytes : ℕ) (e : plainCheck p t bytes ≡ Fine) wher
   pattern-fine = then-first (patternCheck p plainSteps 1) (outputCheck (nodes t) bytes) rest-fine
 
   room : nodes t ≤ bytes
-  unfolding outputCheck
-  room = leb-true (nodes t) bytes (held (leb (nodes t) bytes) _ (then-second (patternCheck p plainSteps 1) (outputCheck (nodes t) bytes) rest-fine))
+  room = output-room (nodes t) bytes (then-second (patternCheck p plainSteps 1) (outputCheck (nodes t) bytes) rest-fine)
 
 -- accepted tables can be read
 pub readable : (p t row : List ℕ) {got : Checked} → Words t → got ≡ plainCheck p t (length row) → got ≡ Fine → Readable p t row

@@ -19,7 +19,7 @@ use Rattle.frames.proofs.Accepted.{frame-below}
 use Rattle.frames.proofs.Ending.{end-behind}
 use Rattle.digits.specs.Digits.{wordsOf}
 use Rattle.lines.specs.Lines.{lineCheck}
-use Rattle.printer.specs.Printer.{lineEnd, lineAt, takeCheck, Outcome, taken, Lines, none, bad, good}
+use Rattle.printer.specs.Printer.{lineEnd, lineAt, takeCheck, Outcome, Lines, none, bad, good}
 use Rattle.printer.specs.Reading.{Roomy, TakenAs, RanAs}
 use Rattle.printer.specs.declared.Taken.{Taken}
 use Rattle.printer.specs.declared.Taken.the-variants as took

@@ -24,7 +24,6 @@ use Rattle.lines.specs.declared.Parsed.the-variants as parsed
 use Rattle.lines.proofs.Promise.{line-short}
 use Rattle.printer.specs.Printer.{takeCheck}
 use Rattle.printer.specs.Reading.{Roomy, TakenAs}
-use Rattle.printer.specs.declared.Taken.{Taken}
 use Rattle.printer.specs.declared.Taken.the-variants as took
 use Rattle.whole.specs.Whole.{wholeCheck}
 

@@ -2,16 +2,14 @@
 use Prim.Native.Nat.{ℕ, _≤_}
 use mathlib.Core.Path.{_≡_, refl, sym, _∙_}
 use mathlib.Core.List.{List}
-use lib.Dec.{leb}
 use lib.ListN.{length}
-use borrow.Author.Tests.{leb-true}
 use Rattle.tables.specs.Limits.{stepLimit}
 use Rattle.tables.specs.Documents.{Doc}
 use Rattle.tables.specs.Checks.{_then_, documentCheck, patternCheck, outputCheck}
 use Rattle.tables.specs.declared.refusal.Refusal.{Refusal}
 use Rattle.tables.specs.declared.refusal.Checked.{Checked}
 use Rattle.tables.specs.declared.refusal.Checked.the-variants.{Fine, Refused}
-use Rattle.tables.proofs.Accepted.{held, then-first, then-second}
+use Rattle.tables.proofs.Accepted.{then-first, then-second, output-room}
 use Rattle.tables.proofs.Soundness.{accepted-pattern, node-falls, document-nodes, used-facts}
 use Rattle.selection.specs.Operations.{readRow}
 use Rattle.reading.specs.States.{Readable}
@@ -33,11 +31,7 @@ module _ (p : List ℕ) (table : ℕ) (d : Doc) (bytes : ℕ) (e : readCheck p t
   fine-pattern = then-first (patternCheck p stepLimit table) (outputCheck (d .used) bytes) fine-rest
 
   pub fine-room : d .used ≤ bytes
-  unfolding outputCheck
-  fine-room =
-      leb-true (d .used) bytes
-      (held (leb (d .used) bytes) _
-      (then-second (patternCheck p stepLimit table) (outputCheck (d .used) bytes) fine-rest))
+  fine-room = output-room (d .used) bytes (then-second (patternCheck p stepLimit table) (outputCheck (d .used) bytes) fine-rest)
 
 module _ (p : List ℕ) (table : ℕ) (d : Doc) (before : List ℕ) {got : Checked} (e : got ≡ readCheck p table d (length before)) where
   -- a row that passed the checks can be read into
