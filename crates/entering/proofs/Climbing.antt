@@ -1,5 +1,5 @@
 -- Climbing an inserted tree: what a stored state changes, and that the root's row answers from which states the read enters.
-use Prim.Native.Nat.{ℕ, zero, suc, pred, _+_, _-_, _<_, _≤_}
+use Prim.Native.Nat.{ℕ, zero, suc, pred, _+_, _-_, _*_, _<_, _≤_}
 use mathlib.Core.Path.{_≡_, refl, sym, _∙_}
 use mathlib.Core.Bool.{Bool, true, false, not, _&&_, false≢true, or-true}
 use mathlib.Core.List.{List}
@@ -11,7 +11,7 @@ use lib.Dec.{eqb}
 use lib.ListN.{length, getD, set, length-set}
 use lib.Seq.{getD-set-same, getD-set-other}
 use borrow.Author.Tests.{eq-eqb, ne-eqb, eqb-true, not-true, not-false}
-use Rattle.tables.specs.Limits.{stepLimit, wordLimit, place}
+use Rattle.tables.specs.Limits.{stepLimit, treeLimit, wordLimit, place}
 use Rattle.tables.specs.Words.{steps, label, nodes, parent, tag}
 use Rattle.selection.specs.Ways.{up, takes, stays, last}
 use Rattle.selection.proofs.Up.{Up, top, node, up-is, up-node, up-top}
@@ -108,6 +108,10 @@ module _ (r x : List ℕ) (fit : Fitting r x) where
 
   pub state-word : (k : ℕ) → k < last r → k < wordLimit
   state-word k h = omega (arith, last-inside)
+
+  -- the row of a node has a place for the state behind it
+  pub next-inside : (v k : ℕ) {long : ℕ} → v < nodes x → k < last r → long ≡ treeLimit * stepLimit → place v (suc k) < long
+  next-inside v k h b room = omega (arith, last-inside, fit .most, room)
 
   climb-inside : {v k : ℕ} → Climb r x v k → v < nodes x
   climb-inside (climbing.starts h) = h

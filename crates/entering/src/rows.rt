@@ -1,7 +1,6 @@
 // The rows of an inserted tree's nodes: the states in which a run leaves each upwards.
 use stepping::stays;
 use tables::limits::STEP_LIMIT;
-use tables::words::byte;
 use tables::words::first_word;
 use tables::words::second_word;
 ghost use Prim.Native.Nat.{suc, _+_, _*_, _<_, _≤_};
@@ -15,10 +14,10 @@ ghost use Rattle.entering.specs.Climbing.{has, leaves, Fitting, Blank, S
 
 // Whether state k is in the row of node v.
 fn holds(rows: &[u8], v: usize, k: usize) -> bool
-    requires { ⌜ (v < wordLimit) × (k ≤ wordLimit) ⌝ }
+    requires { ⌜ (v < wordLimit) × (k ≤ wordLimit) × (place v k < length (now rows)) ⌝ }
     ensures { λ b. ⌜ b ≡ has (now (rows .entry)) v k ⌝ }
 {
-    byte(rows, STEP_LIMIT * v + k) == 1
+    rows[STEP_LIMIT * v + k] == 1
 }
 
 // Whether step i takes this label.
@@ -34,7 +33,7 @@ fn taking(p: &[u16], i: usize, l: usize) -> bool
 
 // Whether the step after k lands on v and leaves a run in state k above it.
 fn landing_above(r: &[u16], x: &[u16], v: usize, k: usize, rows: &[u8]) -> bool
-    requires { ⌜ (v < wordLimit) × (k < wordLimit) ⌝ }
+    requires { ⌜ (v < wordLimit) × (k < wordLimit) × (place v (suc k) < length (now rows)) ⌝ }
     ensures { λ b. ⌜ b ≡ (has (now (rows .entry)) v (suc k) && takes (now (r .entry)) (suc k) (tag (now (x .entry)) v)) ⌝ }
 {
     if !holds(rows, v, k + 1) {
@@ -45,7 +44,7 @@ fn landing_above(r: &[u16], x: &[u16], v: usize, k: usize, rows: &[u8]) -> bool
 
 // Whether a run passes over v in state k.
 fn passing_above(r: &[u16], v: usize, k: usize, rows: &[u8]) -> bool
-    requires { ⌜ (v < wordLimit) × (k < wordLimit) ⌝ }
+    requires { ⌜ (v < wordLimit) × (k < wordLimit) × (place v k < length (now rows)) ⌝ }
     ensures { λ b. ⌜ b ≡ (has (now (rows .entry)) v k && stays (now (r .entry)) false k) ⌝ }
 {
     if !holds(rows, v, k) {
@@ -56,7 +55,7 @@ fn passing_above(r: &[u16], v: usize, k: usize, rows: &[u8]) -> bool
 
 // Whether, from the row of v, a run is in state k above v's label.
 pub(crate) fn leaving(r: &[u16], x: &[u16], v: usize, k: usize, rows: &[u8]) -> bool
-    requires { ⌜ (v < wordLimit) × (k < wordLimit) ⌝ }
+    requires { ⌜ (v < wordLimit) × (k < wordLimit) × (place v (suc k) < length (now rows)) ⌝ }
     ensures { λ b. ⌜ b ≡ leaves (now (r .entry)) (now (x .entry)) (now (rows .entry)) v k ⌝ }
 {
     if landing_above(r, x, v, k, rows) {

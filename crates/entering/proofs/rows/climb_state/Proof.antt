@@ -1,5 +1,5 @@
 -- The parent's row takes the state that leaves the node.
-use Rattle.entering.proofs.Climbing.{node-word, state-word, mark-inside, climb-stored, climb-still}
+use Rattle.entering.proofs.Climbing.{node-word, state-word, next-inside, mark-inside, climb-stored, climb-still}
 use borrow.Author.Needs.{needs}
 use Rattle.entering.proofs.rows.climb_state.Statement.{statement}
 use Rattle.entering.proofs.rows.climb_state.Tie as tie
@@ -11,7 +11,7 @@ climb-state-spec =
     (λ c κs. search needs)
     (λ c κs.
     let here = c .before .before .before .before .before .pre in
-    (node-word _ _ (here .0) _ (here .1 .1 .1), state-word _ _ (here .0) _ (here .1 .1 .2)))
+    (node-word _ _ (here .0) _ (here .1 .1 .1), state-word _ _ (here .0) _ (here .1 .1 .2), next-inside _ _ (here .0) _ _ (here .1 .1 .1) (here .1 .1 .2) (here .1 .0 .room)))
     (λ c κs.
     let here = c .before .before .before .before .before .before .before .before .pre in
     mark-inside _ _ (here .0) _ _ _ (here .1 .1 .0) (here .1 .1 .1) (here .1 .1 .2) (here .1 .0) (c .before .before .before .before .first-word .ensures))

@@ -5,4 +5,4 @@ use Rattle.entering.proofs.rows.holds.Statement.{statement}
 use Rattle.entering.proofs.rows.holds.Tie as tie
 
 pub holds-spec : {M : Type 1} → statement M
-holds-spec = tie.close (tie.spec (λ c. search needs) (λ c. search needs) (λ c κs. search needs) (λ c. search holds-is))
+holds-spec = tie.close (tie.spec (λ c. search needs) (λ c. search needs) (λ c. search needs) (λ c. search holds-is))
