@@ -2,12 +2,12 @@
 use Prim.Native.Nat.{ℕ, _+_, _*_, _-_, _/_, min, _<_, _≤_}
 use mathlib.Core.Path.{_≡_, refl, sym, _∙_}
 use mathlib.Core.Bool.{Bool, true, false, not}
-use mathlib.Core.List.{List, [], _++_, append-assoc, append-nil}
+use mathlib.Core.List.{List, _++_, append-assoc, append-nil}
 use native.Mathlib.Decide.{decLt}
 use native.Mathlib.Omega.{arith}
 use lib.Dec.{leb}
 use lib.ListN.{length, getD, take, drop, replicate, length-take, length-drop, length-replicate, getD-replicate, List·getD-eq-default}
-use lib.Seq.{take-all, drop-drop, drop-length, getD-drop, ext-getD}
+use lib.Seq.{drop-drop, getD-drop, ext-getD}
 use borrow.Author.Tests.{le-leb, lt-leb, leb-true, not-true, not-false}
 use Rattle.tables.specs.Limits.{usedLimit, wordLimit}
 use Rattle.tables.specs.Words.{nodes}
@@ -15,7 +15,7 @@ use Rattle.tables.specs.Documents.{doc}
 use Rattle.tables.proofs.Soundness.{Words}
 use Rattle.selection.specs.Lists.{tab, front}
 use Rattle.selection.specs.Operations.{copyWords, graft}
-use Rattle.selection.proofs.Lists.{length-tab, getD-tab, front-take}
+use Rattle.selection.proofs.Lists.{length-tab, getD-tab, front-take, rest-whole, rest-none}
 use Rattle.copying.specs.Copying.{held, fitting, copied, Copyable}
 use Rattle.copying.proofs.Held.{held-append, held-same}
 
@@ -31,10 +31,7 @@ module _ (end words marks : ℕ) where
 lent-back : (t first : List ℕ) (a n m : ℕ) → m ≡ a + n → a ≤ length t →
     take a t ++ (first ++ drop n (take (length t - a) (drop a t)) ++ drop (length t - a) (drop a t)) ≡ front a t ++ first ++ drop m t
 lent-back t first a n m e h =
-    let whole : take (length t - a) (drop a t) ≡ drop a t = take-all (length t - a) (drop a t) (rw length-drop (omega arith)) in
-    let end : a + (length t - a) ≡ length t = omega arith in
-    let rest : drop (length t - a) (drop a t) ≡ [] = drop-drop (length t - a) a t ∙ rw (end, drop-length) in
-    rw (whole, rest, append-nil, drop-drop, ← e, front-take a t h) (sym (append-assoc (take a t) first (drop m t)))
+    rw (rest-whole t a, rest-none t a, append-nil, drop-drop, ← e, front-take a t h) (sym (append-assoc (take a t) first (drop m t)))
 
 zeros : (n : ℕ) → tab (λ _. 0) n ≡ replicate n 0
 zeros n =

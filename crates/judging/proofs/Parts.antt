@@ -1,12 +1,12 @@
 -- The parts of the batch that go to the verdict are the steps and nodes of its frames.
 use Prim.Native.Nat.{ℕ, _+_, _*_, _-_, _<_, _≤_}
-use mathlib.Core.Path.{_≡_, sym, _∙_, ap}
+use mathlib.Core.Path.{_≡_, sym, _∙_}
 use mathlib.Core.Bool.{Bool, true}
-use mathlib.Core.List.{List, []}
+use mathlib.Core.List.{List}
 use mathlib.Core.Logic.{_↔_}
 use native.Mathlib.Omega.{arith}
-use lib.ListN.{length, drop, length-drop}
-use lib.Seq.{take-all, take-nil, drop-nil, drop-length, drop-drop}
+use lib.ListN.{length, drop, length-drop, drop-of-length-le}
+use lib.Seq.{take-all, take-nil}
 use borrow.Author.Tests.{ne-eqb}
 use Rattle.conflict.specs.Conflict.{delete, insert}
 use Rattle.parts.specs.Parts.{part, count}
@@ -14,15 +14,10 @@ use Rattle.frames.specs.Frames.{kind, treeAt}
 use Rattle.batches.specs.Batches.{patternOf, treeOf, updateOf}
 use Rattle.judging.specs.Judging.{Clash}
 
-past : (b : List ℕ) (from : ℕ) → length b ≤ from → drop from b ≡ []
-past b from h =
-    let e : length b + (from - length b) ≡ from = omega arith in
-    ap (λ (n : ℕ). drop n b) (sym e) ∙ sym (drop-drop (from - length b) (length b) b) ∙ rw drop-length (drop-nil (from - length b))
-
 module _ (b : List ℕ) (from n : ℕ) where
   -- behind the end there are no words
   pub part-past : length b ≤ from → part b 0 0 ≡ part b from n
-  part-past h = rw (past b from h, take-nil)
+  part-past h = rw (drop-of-length-le b h, take-nil)
 
   -- fewer are left than wanted
   pub part-short : length b - from < n → part b from (length b - from) ≡ part b from n

@@ -5,16 +5,14 @@ use mathlib.Core.Bool.{Bool, true, false, false≢true}
 use mathlib.Core.List.{List}
 use mathlib.Core.Logic.{_↔_}
 use lib.ListN.{length, take}
-use native.Mathlib.Omega.{arith}
 use Rattle.tables.specs.Limits.{stepLimit}
-use Rattle.tables.specs.declared.refusal.Refusal.{Refusal}
-use Rattle.tables.specs.declared.refusal.Checked.{Checked}
-use Rattle.tables.specs.declared.refusal.Checked.the-variants.{Fine, Refused}
+use Rattle.tables.specs.declared.refusal.Checked.the-variants.{Fine}
 use Rattle.tables.proofs.Accepted.{then-first}
 use Rattle.conflict.specs.Conflict.{Update, delete, insert}
 use Rattle.admission.specs.Order.{roomCheck, deepDeleteCheck, deepInsertCheck, deleteCheck, insertCheck, deepCheck, verdictCheck}
 use Rattle.verdict.specs.Promise.{NodeVerdict}
 use Rattle.admission.proofs.Accepting.{delete-longest, insert-longest}
+use Rattle.verdict.proofs.Promise.{never}
 use Rattle.verdict.specs.declared.node.Verdict.{Verdict}
 use Rattle.verdict.specs.declared.node.Verdict.the-variants as verdict
 use Rattle.judging.specs.Judging.{Clash}
@@ -29,9 +27,6 @@ said (verdict.Refused why) = false
 said verdict.Clear = false
 said (verdict.Conflict n) = true
 
-refused-not-fine : {c : Checked} {why : Refusal} → c ≡ Refused why → c ≡ Fine → ⊥
-refused-not-fine e f = let z : _≡_ {A = ℕ} 0 1 = cc in omega arith
-
 -- with an output that holds the longest witness the order is that without an output
 module _ (r : List ℕ) (out after : List ℕ) (long : length out ≡ longest) where
   room-enough : (u : Update) → deepCheck r u ≡ Fine → verdictCheck r u (length out) ≡ Fine
@@ -44,7 +39,7 @@ module _ (r : List ℕ) (out after : List ℕ) (long : length out ≡ longest) w
   room-aside (insert p x) e = then-first (deepInsertCheck r p x) (roomCheck r p (length out)) e
 
   pub told : (u : Update) (answer : Verdict) → NodeVerdict r u out after answer → (said answer ≡ true) ↔ Clash r u
-  told u (verdict.Refused why) v = ((λ e. absurd (false≢true e)), (λ c. absurd (refused-not-fine (v .given) (room-enough u (c .fine)))))
+  told u (verdict.Refused why) v = ((λ e. absurd (false≢true e)), (λ c. absurd (never (v .given) (room-enough u (c .fine)))))
   told u verdict.Clear v = ((λ e. absurd (false≢true e)), (λ c. absurd (v .none (c .conflict))))
   told u (verdict.Conflict n) v = (
     (λ e. record { fine = room-aside u (v .fine); conflict = record { tree = take (2 * n) after; shows = v .witness } }),

@@ -5,11 +5,11 @@ use mathlib.Core.List.{List, [], _∷_, _++_, append-assoc, append-nil}
 use native.Mathlib.Numerals.{add-one}
 use native.Mathlib.Omega.{arith}
 use lib.ListN.{length, getD, take, drop, set, length-append, length-drop, length-take}
-use lib.Seq.{drop-cons, set-at, take-all, drop-drop, drop-length, append-snoc, take-at, drop-at}
+use lib.Seq.{drop-cons, set-at, drop-drop, append-snoc, take-at, drop-at}
 use Rattle.tables.specs.Limits.{wordLimit}
 use Rattle.sizes.proofs.Branches.{output-long}
 use Rattle.selection.specs.Lists.{tab}
-use Rattle.selection.proofs.Lists.{length-behind}
+use Rattle.selection.proofs.Lists.{length-behind, rest-whole, rest-none}
 use Rattle.digits.specs.Digits.{byteAt, lineOf}
 use Rattle.digits.proofs.Returning.{length-lineOf}
 use Rattle.spelling.specs.Spelling.{WrittenAs}
@@ -87,13 +87,10 @@ module _ (kinds plan : List ℕ) where
           let first = planText kinds plan k in
           let front : take (13 * k) out ≡ first = rw e (take-at first (drop (13 * k) old) (13 * k) (length-planText k)) in
           let behind : drop (13 * k) out ≡ drop (13 * k) old = rw e (drop-at first (drop (13 * k) old) (13 * k) (length-planText k)) in
-          let whole : take (length out - 13 * k) (drop (13 * k) out) ≡ drop (13 * k) out = take-all (length out - 13 * k) (drop (13 * k) out) (rw length-drop (omega arith)) in
-          let end : 13 * k + (length out - 13 * k) ≡ length out = omega (arith, text-long (omega (arith, h))) in
-          let none : drop (length out - 13 * k) (drop (13 * k) out) ≡ [] = drop-drop (length out - 13 * k) (13 * k) out ∙ rw (end, drop-length) in
           let more : 13 * k + 13 ≡ 13 * (k + 1) = omega arith in
-          let written : rest ≡ line ++ drop (13 * (k + 1)) old = r ∙ rw (p, q, whole, behind, drop-drop, more) in
+          let written : rest ≡ line ++ drop (13 * (k + 1)) old = r ∙ rw (p, q, rest-whole out (13 * k), behind, drop-drop, more) in
           let added : planText kinds plan (k + 1) ≡ first ++ line = ap (planText kinds plan) (add-one k) in
-          rw (none, front, append-nil, written, added) (sym (append-assoc first line (drop (13 * (k + 1)) old)))
+          rw (rest-none out (13 * k), front, append-nil, written, added) (sym (append-assoc first line (drop (13 * (k + 1)) old)))
 
       pub text-end : (n : ℕ) → k ≤ n → n ≤ k → out ≡ planText kinds plan n ++ drop (13 * n) old
       text-end n h l =

@@ -7,8 +7,8 @@ use native.Mathlib.Decide.{decLt, le-ind}
 use native.Mathlib.Nat.{not-suc-le-zero, le-trans}
 use native.Mathlib.Numerals.{add-one}
 use native.Mathlib.Omega.{arith}
-use lib.ListN.{length, take, drop, getD, length-append, length-drop, List·getD-append}
-use lib.Seq.{take-suc, getD-at, getD-append-add, getD-drop}
+use lib.ListN.{length, take, drop, getD, length-append, length-drop, List·getD-append, drop-of-length-le}
+use lib.Seq.{take-suc, take-all, getD-at, getD-append-add, getD-drop}
 use Rattle.selection.specs.Lists.{tab, front, rising, count}
 
 -- what is below suc n is below n or is n
@@ -182,3 +182,11 @@ rising-rises f n i j h l = go (rising-of f n i (omega arith)) (rising-of f n j l
         apart : Dec (u < v) → u < v
         apart (yes k) = k
         apart (no k) = omega (arith, count-mono f v u (omega arith))
+
+-- the rest of a list from a place on is all of it that is left, and nothing is behind it
+module _ (t : List ℕ) (a : ℕ) where
+  pub rest-whole : take (length t - a) (drop a t) ≡ drop a t
+  rest-whole = take-all (length t - a) (drop a t) (rw length-drop (omega arith))
+
+  pub rest-none : drop (length t - a) (drop a t) ≡ []
+  rest-none = drop-of-length-le (drop a t) {i = length t - a} (rw length-drop (omega arith))

@@ -38,7 +38,7 @@ use Rattle.admission.proofs.Accepting.{patterns-read, patterns-update, delete-p
 use Rattle.verdict.proofs.Judging.{verdictOf, outputOf, Judged, deeplyOf}
 
 -- a check that is fine is no refusal
-never : {c : Checked} {why : Refusal} → c ≡ Refused why → c ≡ Fine → ⊥
+pub never : {c : Checked} {why : Refusal} → c ≡ Refused why → c ≡ Fine → ⊥
 never e f = let z : _≡_ {A = ℕ} 0 1 = cc in omega arith
 
 -- a way that decides, within the bound
