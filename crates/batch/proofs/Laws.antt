@@ -20,8 +20,8 @@ use Rattle.order.proofs.Deciding.{conflicting, conflicting-decides}
 use Rattle.order.proofs.Demand.{demand-three, demand-three-sets}
 use Rattle.batches.specs.Batches.{batchOf, batchCheck}
 use Rattle.batch.specs.Batch.{SlotIs, WordIs, Written, Plan}
-use Rattle.batch.specs.declared.plan.Planned.{Planned}
-use Rattle.batch.specs.declared.plan.Planned.the-variants.{Refused, Frames}
+use Rattle.outcomes.specs.declared.plans.Planned.{Planned}
+use Rattle.outcomes.specs.declared.plans.Planned.the-variants.{Refused, Frames}
 use Rattle.batches.proofs.Frames.{accepted-fits}
 use Rattle.batch.proofs.Slots.{slot-one, slot-exactly}
 

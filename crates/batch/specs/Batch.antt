@@ -7,8 +7,8 @@ use Rattle.tables.specs.declared.refusal.Checked.the-variants as checked
 use Rattle.conflict.specs.Conflict.{Update, Conflict}
 use Rattle.order.specs.Model.{Frame, read, update, At, number}
 use Rattle.batches.specs.Batches.{batchOf, planCheck}
-use Rattle.batch.specs.declared.plan.Planned.{Planned}
-use Rattle.batch.specs.declared.plan.Planned.the-variants.{Refused, Frames}
+use Rattle.outcomes.specs.declared.plans.Planned.{Planned}
+use Rattle.outcomes.specs.declared.plans.Planned.the-variants.{Refused, Frames}
 
 -- an update before frame k that conflicts with the read r, and its number
 pub record Before (b : List (Frame (List ℕ) Update)) (k : ℕ) (r : List ℕ) (w : ℕ) : Type 0 where

@@ -2,8 +2,8 @@
 use batches::Counted;
 use batches::checked;
 use judging::conflicts;
+use outcomes::plans::Planned;
 use tables::limits::FRAME_LIMIT;
-use tables::refusal::Refusal;
 use tables::words::word;
 ghost use mathlib.Core.Path.{_≡_};
 ghost use lib.ListN.{length};
@@ -11,12 +11,6 @@ ghost use Rattle.frames.specs.Frames.{endOf};
 ghost use Rattle.batches.specs.Batches.{batchOf};
 ghost use Rattle.batch.specs.Batch.{Written, Plan};
 ghost use Rattle.batch.specs.Walking.{Standing, Planning};
-
-// The number of frames, or a refusal.
-pub enum Planned {
-    Refused(Refusal),
-    Frames(usize),
-}
 
 // Where a frame ends.
 fn frame_end(b: &[u16], at: usize) -> usize

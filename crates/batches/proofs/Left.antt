@@ -13,9 +13,9 @@ use Rattle.tables.specs.declared.refusal.Refusal.{Refusal}
 use Rattle.tables.specs.declared.refusal.Checked.{Checked}
 use Rattle.tables.specs.declared.refusal.Checked.the-variants as checked
 use Rattle.frames.specs.Frames.{endOf, frameCheck, frameOf, answered, frameAt}
-use Rattle.frames.specs.declared.Frame.{Frame}
-use Rattle.frames.specs.declared.Framed.{Framed}
-use Rattle.frames.specs.declared.Framed.the-variants as framed
+use Rattle.outcomes.specs.declared.frames.Frame.{Frame}
+use Rattle.outcomes.specs.declared.frames.Framed.{Framed}
+use Rattle.outcomes.specs.declared.frames.Framed.the-variants as framed
 use Rattle.batches.specs.Batches.{framesFrom, batchOf, checkFrom, batchCheck, planCheck, countedOf}
 use Rattle.batches.specs.declared.Counted.{Counted}
 use Rattle.batches.specs.declared.Counted.the-variants.{Refused, Frames}

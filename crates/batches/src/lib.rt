@@ -1,6 +1,6 @@
 // Batches: how many frames one has, or its refusal.
-use frames::Framed;
 use frames::read_frame;
+use outcomes::frames::Framed;
 use sizes::output;
 use tables::limits::BATCH_LIMIT;
 use tables::refusal::Checked;

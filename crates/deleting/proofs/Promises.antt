@@ -10,7 +10,7 @@ use Rattle.tables.specs.declared.refusal.Refusal.{Refusal}
 use Rattle.tables.specs.declared.refusal.Checked.{Checked}
 use Rattle.tables.specs.declared.refusal.Checked.the-variants.{Fine, Refused}
 use Rattle.tables.proofs.Soundness.{Words, used-facts, accepted-document}
-use Rattle.updating.specs.declared.delete.Deleted.the-variants.{Removed, Refused as NotDeleted}
+use Rattle.outcomes.specs.declared.updates.Deleted.the-variants.{Removed, Refused as NotDeleted}
 use Rattle.updating.specs.Updating.{deleteCheck, Delete}
 use Rattle.updating.specs.Asking.{Asked}
 use Rattle.updating.proofs.Asking.{row-chosen, row-bytes}

@@ -2,11 +2,11 @@
 mod striking;
 
 use crate::striking::strike;
+use outcomes::updates::Deleted;
 use reading::read::reading;
 use tables::limits::USED_LIMIT;
 use tables::refusal::Checked;
 use tables::refusal::refused;
-use updating::delete::Deleted;
 ghost use Prim.Native.Nat.{_≤_};
 ghost use mathlib.Core.Path.{_≡_};
 ghost use lib.Dec.{ltb};

@@ -15,25 +15,25 @@ use Rattle.tables.specs.declared.refusal.Checked.{Checked}
 use Rattle.tables.specs.declared.refusal.Checked.the-variants.{Fine, Refused}
 use Rattle.frames.specs.Frames.{frameCheck, frameOf, answered, frameAt}
 use Rattle.walker.specs.Walker.{answerOf, stepAt}
-use Rattle.walker.specs.declared.Answer.the-variants as walker
+use Rattle.outcomes.specs.declared.frames.Stepped.the-variants as walker
 use Rattle.printer.proofs.Settled.{printed-one}
 use Rattle.reading.proofs.Laws.{read-selects}
 use Rattle.updating.specs.Updating as updating
-use Rattle.updating.specs.declared.delete.Deleted.the-variants as deleted
-use Rattle.updating.specs.declared.insert.Inserted.the-variants as inserted
+use Rattle.outcomes.specs.declared.updates.Deleted.the-variants as deleted
+use Rattle.outcomes.specs.declared.updates.Inserted.the-variants as inserted
 use Rattle.updating.proofs.Deletes.{delete-same}
 use Rattle.updating.proofs.Inserts.{insert-same}
 use Rattle.conflict.specs.Conflict.{Update, Conflict, after, delete, insert}
 use Rattle.admission.specs.Order.{verdictCheck}
 use Rattle.verdict.specs.Promise.{NodeVerdict, witnessNodes}
-use Rattle.verdict.specs.declared.node.Verdict.{Verdict}
-use Rattle.verdict.specs.declared.node.Verdict.the-variants as verdict
+use Rattle.outcomes.specs.declared.verdicts.Verdict.{Verdict}
+use Rattle.outcomes.specs.declared.verdicts.Verdict.the-variants as verdict
 use Rattle.order.specs.Order.{Order}
 use Rattle.order.proofs.Deciding.{conflicting}
 use Rattle.order.proofs.Demand.{row-enough}
 use Rattle.batches.specs.Batches.{batchOf, batchCheck, planCheck}
 use Rattle.batch.specs.Batch.{Plan}
-use Rattle.batch.specs.declared.plan.Planned.the-variants as planned
+use Rattle.outcomes.specs.declared.plans.Planned.the-variants as planned
 use Rattle.batch.proofs.Laws.{accepted-slot, accepted-same, accepted-sets}
 use Rattle.tables.proofs.Accepted.{then-first}
 use Rattle.demands.specs.Demands.{Words, DemandOne, DemandTwo, Keeps, DemandThree}

@@ -13,33 +13,33 @@ use Rattle.tables.specs.declared.refusal.Checked.the-variants.{Fine, Refused}
 use Rattle.tables.specs.Checks.{patternCheck, treeCheck, documentCheck}
 use Rattle.frames.specs.Frames.{frameCheck}
 use Rattle.walker.specs.Walker.{stepAt}
-use Rattle.walker.specs.declared.Answer.the-variants as walker
+use Rattle.outcomes.specs.declared.frames.Stepped.the-variants as walker
 use Rattle.plain.specs.Plain.{PlainRead}
 use Rattle.reading.specs.Reading.{Read}
 use Rattle.updating.specs.Updating.{Delete, Insert}
-use Rattle.updating.specs.declared.delete.Deleted.the-variants as deleted
-use Rattle.updating.specs.declared.insert.Inserted.the-variants as inserted
+use Rattle.outcomes.specs.declared.updates.Deleted.the-variants as deleted
+use Rattle.outcomes.specs.declared.updates.Inserted.the-variants as inserted
 use Rattle.selection.specs.Embeddings.{Selects}
 use Rattle.selection.specs.Rows.{Row}
 use Rattle.conflict.specs.Conflict.{Update, delete, insert, pattern, after as after-update, Witness, Conflict}
 use Rattle.admission.specs.Order.{verdictCheck}
 use Rattle.verdict.specs.Promise.{NodeVerdict, DeepVerdict, witnessNodes}
-use Rattle.verdict.specs.declared.node.Verdict.{Verdict}
-use Rattle.verdict.specs.declared.node.Verdict.the-variants as verdict
-use Rattle.verdict.specs.declared.deep.Deeply.the-variants as deep
+use Rattle.outcomes.specs.declared.verdicts.Verdict.{Verdict}
+use Rattle.outcomes.specs.declared.verdicts.Verdict.the-variants as verdict
+use Rattle.outcomes.specs.declared.verdicts.Deeply.the-variants as deep
 use Rattle.order.specs.Model.{Frame, At, read, update, number}
 use Rattle.order.specs.Order.{Stands, Before, Same, met}
 use Rattle.order.specs.Running.{running, SameSets}
 use Rattle.batches.specs.Batches.{batchOf}
 use Rattle.batch.specs.Batch.{Plan, SlotIs}
-use Rattle.batch.specs.declared.plan.Planned.the-variants as planned
+use Rattle.outcomes.specs.declared.plans.Planned.the-variants as planned
 use Rattle.lines.specs.Lines.{ReadAs}
-use Rattle.lines.specs.declared.Parsed.the-variants as parsed
+use Rattle.outcomes.specs.declared.texts.Parsed.the-variants as parsed
 use Rattle.spelling.specs.Spelling.{WrittenAs}
-use Rattle.spelling.specs.declared.Spelled.the-variants as spelled
+use Rattle.outcomes.specs.declared.texts.Spelled.the-variants as spelled
 use Rattle.printer.specs.Printer.{Lines, stopped, PrintedAs}
-use Rattle.printing.specs.declared.Printed.{Printed}
-use Rattle.printing.specs.declared.Printed.the-variants as printed
+use Rattle.outcomes.specs.declared.texts.Printed.{Printed}
+use Rattle.outcomes.specs.declared.texts.Printed.the-variants as printed
 
 -- every word of the list has 16 bits
 abbrev pub Words : List ℕ → Type 0

@@ -18,8 +18,8 @@ use Rattle.tables.proofs.Tests.{first-passed, first-failed}
 use Rattle.tables.proofs.Accepted.{held, then-first, then-second}
 use Rattle.parts.specs.Parts.{count, stepsCheck, nodesCheck}
 use Rattle.frames.specs.Frames.{kind, kindRight, restCheck, frameCheck, nodesOf, endOf, frameOf, frameAt}
-use Rattle.frames.specs.declared.Frame.{Frame}
-use Rattle.frames.specs.declared.Framed.the-variants as framed
+use Rattle.outcomes.specs.declared.frames.Frame.{Frame}
+use Rattle.outcomes.specs.declared.frames.Framed.the-variants as framed
 
 pub kind-one : (k : ℕ) → k ≡ 1 → true ≡ kindRight k
 unfolding kindRight

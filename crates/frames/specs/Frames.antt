@@ -9,9 +9,9 @@ use Rattle.tables.specs.Checks.{_then_, test, refuse}
 use Rattle.tables.specs.declared.refusal.Checked.{Checked}
 use Rattle.tables.specs.declared.refusal.Checked.the-variants.{Fine, Refused}
 use Rattle.parts.specs.Parts.{count, stepsCheck, nodesCheck}
-use Rattle.frames.specs.declared.Frame.{Frame}
-use Rattle.frames.specs.declared.Framed.{Framed}
-use Rattle.frames.specs.declared.Framed.the-variants as framed
+use Rattle.outcomes.specs.declared.frames.Frame.{Frame}
+use Rattle.outcomes.specs.declared.frames.Framed.{Framed}
+use Rattle.outcomes.specs.declared.frames.Framed.the-variants as framed
 
 -- a frame's kind
 abbrev pub kind : List ℕ → ℕ → ℕ

@@ -1,9 +1,10 @@
 // One frame of a batch, read where it stands: the place of a refusal is decided here.
+use outcomes::frames::Frame;
+use outcomes::frames::Framed;
 use parts::nodes_checked;
 use parts::steps_checked;
 use tables::limits::FRAME_LIMIT;
 use tables::refusal::Checked;
-use tables::refusal::Refusal;
 use tables::refusal::refused;
 use tables::words::word;
 ghost use mathlib.Core.Path.{_≡_};
@@ -12,21 +13,6 @@ ghost use lib.ListN.{length};
 ghost use Rattle.tables.specs.Checks.{_then_};
 ghost use Rattle.parts.specs.Parts.{stepsCheck};
 ghost use Rattle.frames.specs.Frames.{kindRight, restCheck, frameCheck, frameOf, frameAt};
-
-// A frame: its kind (1 read, 2 insert, 3 delete), where its steps begin, how many steps and nodes it has, where it ends.
-pub struct Frame {
-    pub kind: usize,
-    pub from: usize,
-    pub steps: usize,
-    pub nodes: usize,
-    pub next: usize,
-}
-
-// What reading a frame answers.
-pub enum Framed {
-    Refused(Refusal),
-    Found(Frame),
-}
 
 // What stands behind the steps of a frame of kind k.
 fn rest_checked(b: &[u16], n: usize, k: usize, at: usize) -> Checked

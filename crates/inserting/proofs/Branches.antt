@@ -6,7 +6,7 @@ use Rattle.tables.specs.Limits.{treeLimit, usedLimit}
 use Rattle.tables.specs.declared.refusal.Refusal.{Refusal}
 use Rattle.tables.specs.declared.refusal.Checked.{Checked}
 use Rattle.tables.specs.declared.refusal.Checked.the-variants.{Fine, Refused}
-use Rattle.updating.specs.declared.insert.Inserted.the-variants.{Copied, Refused as NotInserted}
+use Rattle.outcomes.specs.declared.updates.Inserted.the-variants.{Copied, Refused as NotInserted}
 use Rattle.updating.specs.Updating.{insertAnswer}
 use Rattle.inserting.specs.Planning.{Small}
 

@@ -17,8 +17,8 @@ use Rattle.selection.specs.Lists.{rising, count}
 use Rattle.selection.specs.Operations.{copies, fits, inserted, grafts}
 use Rattle.selection.proofs.Lists.{count-most}
 use Rattle.selection.proofs.Inserting.{Room}
-use Rattle.updating.specs.declared.insert.Inserted.{Inserted}
-use Rattle.updating.specs.declared.insert.Inserted.the-variants.{Copied, Refused as NotInserted}
+use Rattle.outcomes.specs.declared.updates.Inserted.{Inserted}
+use Rattle.outcomes.specs.declared.updates.Inserted.the-variants.{Copied, Refused as NotInserted}
 use Rattle.updating.specs.Updating.{insertCheck, insertAnswer, Insert}
 use Rattle.updating.specs.Asking.{chosen, tablesCheck, Asked}
 use Rattle.updating.proofs.Asking.{row-copies, row-points}

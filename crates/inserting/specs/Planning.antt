@@ -6,8 +6,8 @@ use Rattle.tables.specs.Limits.{treeLimit, usedLimit}
 use Rattle.tables.specs.Words.{nodes}
 use Rattle.tables.specs.Documents.{Doc}
 use Rattle.selection.specs.Operations.{copies, readRow}
-use Rattle.updating.specs.declared.insert.Inserted.{Inserted}
-use Rattle.updating.specs.declared.insert.Inserted.the-variants.{Copied}
+use Rattle.outcomes.specs.declared.updates.Inserted.{Inserted}
+use Rattle.outcomes.specs.declared.updates.Inserted.the-variants.{Copied}
 use Rattle.updating.specs.Updating.{insertCheck, insertAnswer}
 
 -- counts whose product stays small

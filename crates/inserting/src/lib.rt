@@ -1,5 +1,6 @@
 // Insert, for every caller.
 use grafting::grafts;
+use outcomes::updates::Inserted;
 use reading::read::reading;
 use room::counted;
 use room::fitting;
@@ -7,7 +8,6 @@ use tables::limits::TREE_LIMIT;
 use tables::limits::USED_LIMIT;
 use tables::refusal::Checked;
 use trees::tree;
-use updating::insert::Inserted;
 ghost use Prim.Native.Nat.{_+_, _*_, _/_, min, _≤_};
 ghost use mathlib.Core.Path.{_≡_};
 ghost use lib.Dec.{leb};

@@ -13,8 +13,8 @@ use Rattle.admission.specs.Order.{roomCheck, deepDeleteCheck, deepInsertCheck, 
 use Rattle.verdict.specs.Promise.{NodeVerdict}
 use Rattle.admission.proofs.Accepting.{delete-longest, insert-longest}
 use Rattle.verdict.proofs.Promise.{never}
-use Rattle.verdict.specs.declared.node.Verdict.{Verdict}
-use Rattle.verdict.specs.declared.node.Verdict.the-variants as verdict
+use Rattle.outcomes.specs.declared.verdicts.Verdict.{Verdict}
+use Rattle.outcomes.specs.declared.verdicts.Verdict.the-variants as verdict
 use Rattle.judging.specs.Judging.{Clash}
 
 -- the words of the longest witness

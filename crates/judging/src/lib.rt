@@ -1,7 +1,7 @@
 // Whether the read at one place of a batch conflicts with the update at another, by the verdict on the parts of the batch where they stand.
+use outcomes::verdicts::Verdict;
 use tables::limits::STEP_LIMIT;
 use tables::words::word;
-use verdict::node::Verdict;
 use verdict::node::delete_verdict;
 use verdict::node::insert_verdict;
 ghost use Prim.Native.Nat.{_+_, _*_, _-_};

@@ -18,8 +18,8 @@ use Rattle.selection.specs.Lists.{tab}
 use Rattle.digits.specs.Digits.{digitOf, wordAt, wordsOf, lineOf, Digits}
 use Rattle.digits.proofs.Returning.{line-returns}
 use Rattle.lines.specs.Lines.{characterCheck, lineCheck, ReadAs}
-use Rattle.lines.specs.declared.Parsed.{Parsed}
-use Rattle.lines.specs.declared.Parsed.the-variants as parsed
+use Rattle.outcomes.specs.declared.texts.Parsed.{Parsed}
+use Rattle.outcomes.specs.declared.texts.Parsed.the-variants as parsed
 
 -- every character of an accepted line is a digit
 pub line-digits : (s : List ℕ) (line : ℕ) → lineCheck s line ≡ Fine → Digits s

@@ -10,8 +10,8 @@ use Rattle.tables.specs.Checks.{_then_, test, refuse, each, outputCheck}
 use Rattle.tables.specs.declared.refusal.Checked.{Checked}
 use Rattle.tables.specs.declared.refusal.Checked.the-variants.{Fine, Refused}
 use Rattle.digits.specs.Digits.{digitOf, wordsOf}
-use Rattle.lines.specs.declared.Parsed.{Parsed}
-use Rattle.lines.specs.declared.Parsed.the-variants as parsed
+use Rattle.outcomes.specs.declared.texts.Parsed.{Parsed}
+use Rattle.outcomes.specs.declared.texts.Parsed.the-variants as parsed
 
 -- 13: another character
 unfoldable pub characterCheck : List ℕ → ℕ → ℕ → Checked

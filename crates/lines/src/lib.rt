@@ -1,8 +1,8 @@
 // Lines: from a line's bytes to a frame's words.
+use outcomes::texts::Parsed;
 use sizes::output;
 use tables::limits::DIGIT_LIMIT;
 use tables::refusal::Checked;
-use tables::refusal::Refusal;
 use tables::refusal::refused;
 use tables::words::byte;
 ghost use mathlib.Core.Path.{_≡_};
@@ -13,12 +13,6 @@ ghost use Rattle.tables.specs.Checks.{_then_, each, outputCheck};
 ghost use Rattle.selection.specs.Lists.{tab};
 ghost use Rattle.digits.specs.Digits.{digitOf, wordAt, Digits};
 ghost use Rattle.lines.specs.Lines.{characterCheck, lineCheck, ReadAs};
-
-// What reading a line answers: how many words it has.
-pub enum Parsed {
-    Refused(Refusal),
-    Words(usize),
-}
 
 // The value of a digit's byte, 16 for any other byte.
 fn digit(c: usize) -> usize

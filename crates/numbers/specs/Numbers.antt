@@ -1,24 +1,24 @@
 -- The numbers of each operation's answer.
 use Rattle.tables.specs.declared.refusal.Checked.{Checked}
 use Rattle.tables.specs.declared.refusal.Checked.the-variants as checked
-use Rattle.updating.specs.declared.delete.Deleted.{Deleted}
-use Rattle.updating.specs.declared.delete.Deleted.the-variants as deleted
-use Rattle.updating.specs.declared.insert.Inserted.{Inserted}
-use Rattle.updating.specs.declared.insert.Inserted.the-variants as inserted
-use Rattle.verdict.specs.declared.node.Verdict.{Verdict}
-use Rattle.verdict.specs.declared.node.Verdict.the-variants as verdict
-use Rattle.verdict.specs.declared.deep.Deeply.{Deeply}
-use Rattle.verdict.specs.declared.deep.Deeply.the-variants as deeply
-use Rattle.walker.specs.declared.Answer.{Answer as Stepped}
-use Rattle.walker.specs.declared.Answer.the-variants as stepped
-use Rattle.batch.specs.declared.plan.Planned.{Planned}
-use Rattle.batch.specs.declared.plan.Planned.the-variants as planned
-use Rattle.lines.specs.declared.Parsed.{Parsed}
-use Rattle.lines.specs.declared.Parsed.the-variants as parsed
-use Rattle.spelling.specs.declared.Spelled.{Spelled}
-use Rattle.spelling.specs.declared.Spelled.the-variants as spelled
-use Rattle.printing.specs.declared.Printed.{Printed}
-use Rattle.printing.specs.declared.Printed.the-variants as printed
+use Rattle.outcomes.specs.declared.updates.Deleted.{Deleted}
+use Rattle.outcomes.specs.declared.updates.Deleted.the-variants as deleted
+use Rattle.outcomes.specs.declared.updates.Inserted.{Inserted}
+use Rattle.outcomes.specs.declared.updates.Inserted.the-variants as inserted
+use Rattle.outcomes.specs.declared.verdicts.Verdict.{Verdict}
+use Rattle.outcomes.specs.declared.verdicts.Verdict.the-variants as verdict
+use Rattle.outcomes.specs.declared.verdicts.Deeply.{Deeply}
+use Rattle.outcomes.specs.declared.verdicts.Deeply.the-variants as deeply
+use Rattle.outcomes.specs.declared.frames.Stepped.{Stepped}
+use Rattle.outcomes.specs.declared.frames.Stepped.the-variants as stepped
+use Rattle.outcomes.specs.declared.plans.Planned.{Planned}
+use Rattle.outcomes.specs.declared.plans.Planned.the-variants as planned
+use Rattle.outcomes.specs.declared.texts.Parsed.{Parsed}
+use Rattle.outcomes.specs.declared.texts.Parsed.the-variants as parsed
+use Rattle.outcomes.specs.declared.texts.Spelled.{Spelled}
+use Rattle.outcomes.specs.declared.texts.Spelled.the-variants as spelled
+use Rattle.outcomes.specs.declared.texts.Printed.{Printed}
+use Rattle.outcomes.specs.declared.texts.Printed.the-variants as printed
 use Rattle.answers.specs.declared.answer.Answer.{Answer}
 use Rattle.answers.specs.Answers.{refusing, giving}
 

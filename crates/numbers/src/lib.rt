@@ -2,16 +2,16 @@
 use answers::answer::Answer;
 use answers::answer::giving;
 use answers::answer::refusing;
-use batch::plan::Planned;
-use lines::Parsed;
-use printing::Printed;
-use spelling::Spelled;
+use outcomes::frames::Stepped;
+use outcomes::plans::Planned;
+use outcomes::texts::Parsed;
+use outcomes::texts::Printed;
+use outcomes::texts::Spelled;
+use outcomes::updates::Deleted;
+use outcomes::updates::Inserted;
+use outcomes::verdicts::Deeply;
+use outcomes::verdicts::Verdict;
 use tables::refusal::Checked;
-use updating::delete::Deleted;
-use updating::insert::Inserted;
-use verdict::deep::Deeply;
-use verdict::node::Verdict;
-use walker::Answer as Stepped;
 ghost use mathlib.Core.Path.{_≡_};
 ghost use Rattle.numbers.specs.Numbers.{ofChecked, ofDeleted, ofInserted, ofVerdict, ofDeeply, ofStepped, ofPlanned, ofParsed, ofSpelled, ofPrinted};
 

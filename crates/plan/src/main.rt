@@ -1,8 +1,8 @@
 // The plan printer: lines from standard input, their plan or the first refusal to standard output.
 use libc::STDIN_FILENO;
 use libc::STDOUT_FILENO;
+use outcomes::texts::Printed;
 use printer::print;
-use printing::Printed;
 ghost use mathlib.Core.Path.{_≡_};
 ghost use lib.ListN.{length};
 

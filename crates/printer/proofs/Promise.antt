@@ -10,11 +10,11 @@ use Rattle.tables.specs.declared.refusal.Refusal.{Refusal}
 use Rattle.tables.specs.declared.refusal.Checked.the-variants.{Fine, Refused}
 use Rattle.batches.specs.Batches.{planCheck}
 use Rattle.batch.specs.Batch.{Plan}
-use Rattle.batch.specs.declared.plan.Planned.{Planned}
-use Rattle.batch.specs.declared.plan.Planned.the-variants as planned
+use Rattle.outcomes.specs.declared.plans.Planned.{Planned}
+use Rattle.outcomes.specs.declared.plans.Planned.the-variants as planned
 use Rattle.printing.specs.Printing.{threeOf, planText, Answered}
-use Rattle.printing.specs.declared.Printed.{Printed}
-use Rattle.printing.specs.declared.Printed.the-variants as printed
+use Rattle.outcomes.specs.declared.texts.Printed.{Printed}
+use Rattle.outcomes.specs.declared.texts.Printed.the-variants as printed
 use Rattle.printing.proofs.Promise.{text-within}
 use Rattle.printer.specs.Printer.{PlanIs, refusal, plan, PrintedAs}
 use Rattle.printer.specs.Reading.{RanAs, PlanPrinted}

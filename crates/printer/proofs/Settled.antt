@@ -9,7 +9,7 @@ use Rattle.order.proofs.Places.{by-kind}
 use Rattle.batches.specs.Batches.{batchOf}
 use Rattle.batch.proofs.Laws.{word-one}
 use Rattle.printing.specs.Printing.{planText}
-use Rattle.printing.specs.declared.Printed.{Printed}
+use Rattle.outcomes.specs.declared.texts.Printed.{Printed}
 use Rattle.printing.proofs.Promise.{answer-one}
 use Rattle.printer.specs.Printer.{Outcome, stopped, taken, Lines, none, bad, good, PlanIs, Prints, refusal, plan, PrintedAs}
 use Rattle.printer.proofs.Accepting.{sofar-none, lines-taken, sofar-frames}

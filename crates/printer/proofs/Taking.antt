@@ -19,8 +19,8 @@ use Rattle.sizes.proofs.Branches.{output-long}
 use Rattle.digits.specs.Digits.{digitOf, wordsOf}
 use Rattle.digits.proofs.Returning.{length-wordsOf}
 use Rattle.lines.specs.Lines.{characterCheck, lineCheck, ReadAs}
-use Rattle.lines.specs.declared.Parsed.{Parsed}
-use Rattle.lines.specs.declared.Parsed.the-variants as parsed
+use Rattle.outcomes.specs.declared.texts.Parsed.{Parsed}
+use Rattle.outcomes.specs.declared.texts.Parsed.the-variants as parsed
 use Rattle.lines.proofs.Promise.{line-short}
 use Rattle.printer.specs.Printer.{takeCheck}
 use Rattle.printer.specs.Reading.{Roomy, TakenAs}

@@ -19,7 +19,7 @@ use Rattle.batch.specs.Batch.{WordIs}
 use Rattle.digits.specs.Digits.{wordsOf}
 use Rattle.lines.specs.Lines.{lineCheck}
 use Rattle.printing.specs.Printing.{threeOf, planText, Answered}
-use Rattle.printing.specs.declared.Printed.{Printed}
+use Rattle.outcomes.specs.declared.texts.Printed.{Printed}
 
 -- the first line feed at or behind a place, of so many bytes; behind them where there is none
 unfoldable pub feedFrom : List ℕ → ℕ → ℕ → ℕ

@@ -7,7 +7,7 @@ use Rattle.tables.specs.Limits.{batchLimit, digitLimit}
 use Rattle.tables.specs.declared.refusal.Checked.the-variants as checked
 use Rattle.digits.specs.Digits.{wordsOf}
 use Rattle.printing.specs.Printing.{planText, Answered}
-use Rattle.printing.specs.declared.Printed.{Printed}
+use Rattle.outcomes.specs.declared.texts.Printed.{Printed}
 use Rattle.printer.specs.Printer.{takeCheck, stopped, taken, Lines, PlanIs}
 use Rattle.printer.specs.declared.Taken.{Taken}
 use Rattle.printer.specs.declared.Taken.the-variants as took

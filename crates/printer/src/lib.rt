@@ -1,8 +1,8 @@
 // The plan printer: from lines to the plan of their frames, or to the first refusal.
 use batch::plan::plan;
-use lines::Parsed;
 use lines::read_line;
-use printing::Printed;
+use outcomes::texts::Parsed;
+use outcomes::texts::Printed;
 use printing::print_frames;
 use printing::print_refusal;
 use tables::limits::BATCH_LIMIT;

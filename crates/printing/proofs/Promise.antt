@@ -12,8 +12,8 @@ use Rattle.tables.specs.declared.refusal.Checked.{Checked}
 use Rattle.tables.specs.declared.refusal.Checked.the-variants.{Fine, Refused}
 use Rattle.tables.proofs.Accepted.{output-room}
 use Rattle.printing.specs.Printing.{Answered}
-use Rattle.printing.specs.declared.Printed.{Printed}
-use Rattle.printing.specs.declared.Printed.the-variants as printed
+use Rattle.outcomes.specs.declared.texts.Printed.{Printed}
+use Rattle.outcomes.specs.declared.texts.Printed.the-variants as printed
 
 -- a text, the bytes that it takes, and the room for them
 module _ (text before : List ℕ) {wanted : ℕ} (long : length text ≡ wanted) {got : Checked} (e : got ≡ outputCheck wanted (length before)) where

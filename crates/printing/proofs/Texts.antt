@@ -13,8 +13,8 @@ use Rattle.selection.proofs.Lists.{length-behind, rest-whole, rest-none}
 use Rattle.digits.specs.Digits.{byteAt, lineOf}
 use Rattle.digits.proofs.Returning.{length-lineOf}
 use Rattle.spelling.specs.Spelling.{WrittenAs}
-use Rattle.spelling.specs.declared.Spelled.{Spelled}
-use Rattle.spelling.specs.declared.Spelled.the-variants as spelled
+use Rattle.outcomes.specs.declared.texts.Spelled.{Spelled}
+use Rattle.outcomes.specs.declared.texts.Spelled.the-variants as spelled
 use Rattle.printing.specs.Printing.{threeOf, planText}
 
 pub length-threeOf : (a b c : ℕ) → length (threeOf a b c) ≡ 13

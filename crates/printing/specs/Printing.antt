@@ -6,8 +6,8 @@ use lib.ListN.{length, getD, drop}
 use Rattle.tables.specs.Checks.{outputCheck}
 use Rattle.tables.specs.declared.refusal.Checked.the-variants as checked
 use Rattle.digits.specs.Digits.{lineOf}
-use Rattle.printing.specs.declared.Printed.{Printed}
-use Rattle.printing.specs.declared.Printed.the-variants.{Refused, Bytes}
+use Rattle.outcomes.specs.declared.texts.Printed.{Printed}
+use Rattle.outcomes.specs.declared.texts.Printed.the-variants.{Refused, Bytes}
 
 -- three words as a line, with its line feed; of a greater number the last four digits
 unfoldable pub threeOf : ℕ → ℕ → ℕ → List ℕ

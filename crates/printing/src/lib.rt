@@ -1,9 +1,9 @@
 // Printed lines: three words and a line feed each. A refusal's line, or a line a frame.
+use outcomes::texts::Printed;
 use sizes::output;
 use spelling::write_line;
 use tables::limits::WORD_LIMIT;
 use tables::refusal::Checked;
-use tables::refusal::Refusal;
 use tables::words::word;
 ghost use Prim.Native.Nat.{_*_, _%_, _≤_};
 ghost use mathlib.Core.Path.{_≡_};
@@ -11,12 +11,6 @@ ghost use mathlib.Core.List.{_++_};
 ghost use lib.ListN.{length, drop};
 ghost use Rattle.tables.specs.Limits.{wordLimit};
 ghost use Rattle.printing.specs.Printing.{threeOf, planText, Answered};
-
-// What printing answers: how many bytes it wrote.
-pub enum Printed {
-    Refused(Refusal),
-    Bytes(usize),
-}
 
 // The last four digits of a number, as a word.
 fn low(n: usize) -> u16

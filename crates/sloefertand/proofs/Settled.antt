@@ -11,8 +11,8 @@ use Rattle.reading.proofs.Laws.{read-one}
 use Rattle.updating.specs.Updating.{Delete, Insert}
 use Rattle.updating.proofs.Settled.{delete-one, insert-one}
 use Rattle.conflict.specs.Conflict.{Update}
-use Rattle.verdict.specs.declared.node.Verdict.{Verdict}
-use Rattle.verdict.specs.declared.node.Verdict.the-variants as verdict
+use Rattle.outcomes.specs.declared.verdicts.Verdict.{Verdict}
+use Rattle.outcomes.specs.declared.verdicts.Verdict.the-variants as verdict
 use Rattle.verdict.specs.Promise.{NodeVerdict, witnessNodes, DeepVerdict}
 use Rattle.verdict.proofs.Promise.{verdict-one, deep-one}
 use Rattle.batch.specs.Batch.{Plan}

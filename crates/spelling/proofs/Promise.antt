@@ -11,8 +11,8 @@ use Rattle.tables.proofs.Accepted.{output-room}
 use Rattle.selection.specs.Lists.{tab}
 use Rattle.digits.specs.Digits.{byteAt, lineOf}
 use Rattle.spelling.specs.Spelling.{WrittenAs}
-use Rattle.spelling.specs.declared.Spelled.{Spelled}
-use Rattle.spelling.specs.declared.Spelled.the-variants as spelled
+use Rattle.outcomes.specs.declared.texts.Spelled.{Spelled}
+use Rattle.outcomes.specs.declared.texts.Spelled.the-variants as spelled
 
 module _ (ws before : List ℕ) {got : Checked} (e : got ≡ outputCheck (4 * length ws) (length before)) where
   module _ (f : got ≡ Fine) where

@@ -6,8 +6,8 @@ use lib.ListN.{length, drop}
 use Rattle.tables.specs.Checks.{outputCheck}
 use Rattle.tables.specs.declared.refusal.Checked.the-variants.{Fine, Refused}
 use Rattle.digits.specs.Digits.{lineOf}
-use Rattle.spelling.specs.declared.Spelled.{Spelled}
-use Rattle.spelling.specs.declared.Spelled.the-variants as spelled
+use Rattle.outcomes.specs.declared.texts.Spelled.{Spelled}
+use Rattle.outcomes.specs.declared.texts.Spelled.the-variants as spelled
 
 -- what writing words promises: 7 when there is too little room; the line at the front, all behind it stays
 abbrev pub WrittenAs : List ℕ → List ℕ → List ℕ → Spelled → Type 0

@@ -1,7 +1,7 @@
 // Written lines: from words to the bytes of their line.
+use outcomes::texts::Spelled;
 use sizes::output;
 use tables::refusal::Checked;
-use tables::refusal::Refusal;
 use tables::words::word;
 ghost use mathlib.Core.Path.{_≡_};
 ghost use mathlib.Core.List.{_++_};
@@ -10,12 +10,6 @@ ghost use lib.ListN.{length, drop};
 ghost use Rattle.selection.specs.Lists.{tab};
 ghost use Rattle.digits.specs.Digits.{byteOf, byteAt};
 ghost use Rattle.spelling.specs.Spelling.{WrittenAs};
-
-// What writing words answers: how many digits they take.
-pub enum Spelled {
-    Refused(Refusal),
-    Digits(usize),
-}
 
 // The byte of a digit.
 fn digit_byte(d: usize) -> u8

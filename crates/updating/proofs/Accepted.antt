@@ -15,8 +15,8 @@ use Rattle.tables.specs.declared.refusal.Checked.the-variants.{Fine, Refused}
 use Rattle.tables.proofs.Accepted.{held, then-first, then-second}
 use Rattle.selection.specs.Operations.{fits}
 use Rattle.selection.proofs.Inserting.{Room, fits-room}
-use Rattle.updating.specs.declared.delete.Deleted.the-variants.{Removed, Refused as NotDeleted}
-use Rattle.updating.specs.declared.insert.Inserted.the-variants.{Copied, Refused as NotInserted}
+use Rattle.outcomes.specs.declared.updates.Deleted.the-variants.{Removed, Refused as NotDeleted}
+use Rattle.outcomes.specs.declared.updates.Inserted.the-variants.{Copied, Refused as NotInserted}
 use Rattle.updating.specs.Updating.{deleteCheck, insertCheck, deleteAnswer, insertAnswer}
 use Rattle.updating.specs.Asking.{tablesCheck}
 use Rattle.updating.proofs.Asking.{then-assoc}

@@ -19,7 +19,7 @@ use Rattle.selection.proofs.Presence.{present-used}
 use Rattle.selection.proofs.Runs.{both, either, hits-run, run-below}
 use Rattle.selection.proofs.Up.{Up, top, node, way-is, way-of, way-node}
 use Rattle.selection.proofs.Deleting.{present-deleted, deleted-selects, deleted-behind, deleted-length, deleted-count, deleted-sound}
-use Rattle.updating.specs.declared.delete.Deleted.the-variants.{Removed, Refused as NotDeleted}
+use Rattle.outcomes.specs.declared.updates.Deleted.the-variants.{Removed, Refused as NotDeleted}
 use Rattle.updating.specs.Updating.{deleteCheck, Delete}
 use Rattle.updating.proofs.Accepted.{delete-document, delete-steps, removed-fine, kept-told}
 

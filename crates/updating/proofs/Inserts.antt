@@ -14,7 +14,7 @@ use Rattle.selection.specs.Ways.{up, selected}
 use Rattle.selection.specs.Operations.{points, inserted, copies}
 use Rattle.selection.proofs.Keeping.{Kept, Copy, kept-selected}
 use Rattle.selection.proofs.Inserting.{Room, copies-count, inserted-used, inserted-word-behind, inserted-mark-behind, inserted-rows-length, inserted-marks-length, inserted-sound, inserted-kept, inserted-copy}
-use Rattle.updating.specs.declared.insert.Inserted.the-variants.{Copied, Refused as NotInserted}
+use Rattle.outcomes.specs.declared.updates.Inserted.the-variants.{Copied, Refused as NotInserted}
 use Rattle.updating.specs.Updating.{insertCheck, Insert}
 use Rattle.updating.proofs.Accepted.{insert-document, insert-tree, insert-room, copied-fine, refused-told}
 

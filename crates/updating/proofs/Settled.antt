@@ -3,8 +3,8 @@ use Prim.Native.Nat.{ℕ}
 use mathlib.Core.Path.{_≡_, sym, _∙_}
 use mathlib.Core.List.{List}
 use Rattle.tables.specs.Documents.{Doc}
-use Rattle.updating.specs.declared.delete.Deleted.{Deleted}
-use Rattle.updating.specs.declared.insert.Inserted.{Inserted}
+use Rattle.outcomes.specs.declared.updates.Deleted.{Deleted}
+use Rattle.outcomes.specs.declared.updates.Inserted.{Inserted}
 use Rattle.updating.specs.Updating.{Delete, Insert}
 
 pub delete-one : {p : List ℕ} {d : Doc} {before a b : List ℕ} {x y : Deleted} → Delete p d before a x → Delete p d before b y → (x ≡ y) × (a ≡ b)

@@ -11,10 +11,10 @@ use Rattle.tables.specs.declared.refusal.Checked.{Checked}
 use Rattle.tables.specs.declared.refusal.Checked.the-variants.{Fine, Refused}
 use Rattle.selection.specs.Operations.{deleted, removed, inserted, copies, fits}
 use Rattle.reading.specs.Reading.{written}
-use Rattle.updating.specs.declared.delete.Deleted.{Deleted}
-use Rattle.updating.specs.declared.delete.Deleted.the-variants.{Removed, Refused as NotDeleted}
-use Rattle.updating.specs.declared.insert.Inserted.{Inserted}
-use Rattle.updating.specs.declared.insert.Inserted.the-variants.{Copied, Refused as NotInserted}
+use Rattle.outcomes.specs.declared.updates.Deleted.{Deleted}
+use Rattle.outcomes.specs.declared.updates.Deleted.the-variants.{Removed, Refused as NotDeleted}
+use Rattle.outcomes.specs.declared.updates.Inserted.{Inserted}
+use Rattle.outcomes.specs.declared.updates.Inserted.the-variants.{Copied, Refused as NotInserted}
 
 -- a delete: the document, then the pattern, then 6 when it has one step
 unfoldable pub deleteCheck : List ℕ → Doc → Checked

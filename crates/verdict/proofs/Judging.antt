@@ -9,10 +9,10 @@ use borrow.Author.Tests.{eq-eqb, ne-eqb, lt-ltb, le-ltb}
 use Rattle.tables.specs.declared.refusal.Refusal.{Refusal}
 use Rattle.tables.specs.declared.refusal.Checked.{Checked}
 use Rattle.tables.specs.declared.refusal.Checked.the-variants.{Fine, Refused}
-use Rattle.verdict.specs.declared.node.Verdict.{Verdict}
-use Rattle.verdict.specs.declared.node.Verdict.the-variants.{Clear, Conflict, Refused as NotJudged}
-use Rattle.verdict.specs.declared.deep.Deeply.{Deeply}
-use Rattle.verdict.specs.declared.deep.Deeply.the-variants.{No, Yes, Refused as NotDeep}
+use Rattle.outcomes.specs.declared.verdicts.Verdict.{Verdict}
+use Rattle.outcomes.specs.declared.verdicts.Verdict.the-variants.{Clear, Conflict, Refused as NotJudged}
+use Rattle.outcomes.specs.declared.verdicts.Deeply.{Deeply}
+use Rattle.outcomes.specs.declared.verdicts.Deeply.the-variants.{No, Yes, Refused as NotDeep}
 use Rattle.conflict.specs.Crossing.{chain}
 use Rattle.verdict.specs.Verdict.{foundOf}
 use Rattle.ways.specs.Ways.{Written}

@@ -26,10 +26,10 @@ use Rattle.conflict.proofs.Smallest.{Decides, smallest}
 use Rattle.conflict.proofs.Deletes.{decides-delete, deleteWay-most}
 use Rattle.conflict.proofs.Inserts.{decides-insert, insertWay-most}
 use Rattle.conflict.proofs.Deeps.{touching}
-use Rattle.verdict.specs.declared.node.Verdict.{Verdict}
-use Rattle.verdict.specs.declared.node.Verdict.the-variants.{Clear, Conflict as Found, Refused as NotJudged}
-use Rattle.verdict.specs.declared.deep.Deeply.{Deeply}
-use Rattle.verdict.specs.declared.deep.Deeply.the-variants.{No, Yes, Refused as NotDeep}
+use Rattle.outcomes.specs.declared.verdicts.Verdict.{Verdict}
+use Rattle.outcomes.specs.declared.verdicts.Verdict.the-variants.{Clear, Conflict as Found, Refused as NotJudged}
+use Rattle.outcomes.specs.declared.verdicts.Deeply.{Deeply}
+use Rattle.outcomes.specs.declared.verdicts.Deeply.the-variants.{No, Yes, Refused as NotDeep}
 use Rattle.admission.specs.Order.{verdictCheck, deepCheck, deepDeleteCheck, deepInsertCheck, deleteCheck, insertCheck}
 use Rattle.verdict.specs.Promise.{NodeVerdict, DeepVerdict, witnessNodes}
 use Rattle.ways.specs.Ways.{touches}

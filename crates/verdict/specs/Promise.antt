@@ -7,10 +7,10 @@ use Rattle.tables.specs.Words.{steps, nodes}
 use Rattle.tables.specs.declared.refusal.Refusal.{Refusal}
 use Rattle.tables.specs.declared.refusal.Checked.the-variants.{Fine, Refused}
 use Rattle.conflict.specs.Conflict.{Update, pattern, Witness, Conflict, Deep}
-use Rattle.verdict.specs.declared.node.Verdict.{Verdict}
-use Rattle.verdict.specs.declared.node.Verdict.the-variants.{Clear, Conflict as Found, Refused as NotJudged}
-use Rattle.verdict.specs.declared.deep.Deeply.{Deeply}
-use Rattle.verdict.specs.declared.deep.Deeply.the-variants.{No, Yes, Refused as NotDeep}
+use Rattle.outcomes.specs.declared.verdicts.Verdict.{Verdict}
+use Rattle.outcomes.specs.declared.verdicts.Verdict.the-variants.{Clear, Conflict as Found, Refused as NotJudged}
+use Rattle.outcomes.specs.declared.verdicts.Deeply.{Deeply}
+use Rattle.outcomes.specs.declared.verdicts.Deeply.the-variants.{No, Yes, Refused as NotDeep}
 use Rattle.admission.specs.Order.{verdictCheck, deepCheck}
 
 -- refused: the order gives this refusal, and the output is as it was

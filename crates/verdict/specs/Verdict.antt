@@ -6,8 +6,8 @@ use lib.Dec.{eqb, ltb}
 use lib.ListN.{length}
 use Rattle.conflict.specs.Crossing.{deleteWay, insertWay}
 use Rattle.ways.specs.Ways.{touches}
-use Rattle.verdict.specs.declared.node.Verdict.{Verdict}
-use Rattle.verdict.specs.declared.node.Verdict.the-variants.{Clear, Conflict}
+use Rattle.outcomes.specs.declared.verdicts.Verdict.{Verdict}
+use Rattle.outcomes.specs.declared.verdicts.Verdict.the-variants.{Clear, Conflict}
 
 -- a conflict with the number of nodes of its witness, or none
 unfoldable pub foundOf : ℕ → Verdict

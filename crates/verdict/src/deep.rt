@@ -1,9 +1,9 @@
 // The deep verdict, yes or no: a node conflict, or an update point below a node that the read selects.
 use admission::deep_delete_check;
 use admission::deep_insert_check;
+use outcomes::verdicts::Deeply;
 use tables::limits::STEP_LIMIT;
 use tables::refusal::Checked;
-use tables::refusal::Refusal;
 use ways::delete_way;
 use ways::insert_way;
 use ways::touching;
@@ -13,18 +13,11 @@ ghost use mathlib.Core.Bool.{cond};
 ghost use lib.ListN.{length};
 ghost use Rattle.tables.specs.Limits.{stepLimit};
 ghost use Rattle.conflict.specs.Conflict.{delete, insert};
-ghost use Rattle.verdict.specs.declared.deep.Deeply.the-variants.{No, Yes};
+ghost use Rattle.outcomes.specs.declared.verdicts.Deeply.the-variants.{No, Yes};
 ghost use Rattle.tables.specs.declared.refusal.Checked.the-variants.{Fine};
 ghost use Rattle.admission.specs.Order.{deepDeleteCheck, deepInsertCheck};
 ghost use Rattle.verdict.specs.Promise.{DeepVerdict};
 ghost use Rattle.verdict.specs.Verdict.{deleteDeep, insertDeep};
-
-// Refused, no or yes.
-pub enum Deeply {
-    Refused(Refusal),
-    No,
-    Yes,
-}
 
 // Words of the longest witness.
 const WORDS: usize = 2 * (STEP_LIMIT + STEP_LIMIT - 1);

@@ -1,21 +1,14 @@
 // The node verdict: whether a read and an update conflict, with a smallest witness.
 use admission::delete_check;
 use admission::insert_check;
+use outcomes::verdicts::Verdict;
 use tables::refusal::Checked;
-use tables::refusal::Refusal;
 use ways::delete_way;
 use ways::insert_way;
 ghost use mathlib.Core.Path.{_≡_};
 ghost use Rattle.conflict.specs.Conflict.{delete, insert};
 ghost use Rattle.verdict.specs.Promise.{NodeVerdict};
 ghost use Rattle.verdict.specs.Verdict.{foundOf};
-
-// Refused; no conflict; or a conflict, with the number of nodes of the witness written.
-pub enum Verdict {
-    Refused(Refusal),
-    Clear,
-    Conflict(usize),
-}
 
 // A conflict with a witness of n nodes, none where n is 0.
 fn found(n: usize) -> Verdict

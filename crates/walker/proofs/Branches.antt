@@ -9,12 +9,12 @@ use Rattle.tables.specs.Limits.{batchLimit}
 use Rattle.tables.specs.declared.refusal.Refusal.{Refusal}
 use Rattle.parts.specs.Parts.{part}
 use Rattle.frames.specs.Frames.{frameAt}
-use Rattle.frames.specs.declared.Frame.{Frame}
-use Rattle.frames.specs.declared.Framed.{Framed}
-use Rattle.frames.specs.declared.Framed.the-variants as framed
+use Rattle.outcomes.specs.declared.frames.Frame.{Frame}
+use Rattle.outcomes.specs.declared.frames.Framed.{Framed}
+use Rattle.outcomes.specs.declared.frames.Framed.the-variants as framed
 use Rattle.walker.specs.Walker.{answerOf, stepAt, placeAfter, numberAfter, partAt}
-use Rattle.walker.specs.declared.Answer.{Answer}
-use Rattle.walker.specs.declared.Answer.the-variants as answer
+use Rattle.outcomes.specs.declared.frames.Stepped.{Stepped}
+use Rattle.outcomes.specs.declared.frames.Stepped.the-variants as answer
 
 module _ (b : List ℕ) (n at : ℕ) {got : Framed} (is : got ≡ frameAt b n at) where
   pub framed-refused : {r : Refusal} → got ≡ framed.Refused r → answer.Refused r ≡ answerOf (frameAt b n at)
@@ -32,11 +32,11 @@ module _ (b : List ℕ) (n at : ℕ) where
   unfolding stepAt
   step-over h l = rw (le-leb (length b) batchLimit h, le-ltb at (length b) l)
 
-  pub step-frame : {a : Answer} → length b ≤ batchLimit → at < length b → a ≡ answerOf (frameAt b n at) → a ≡ stepAt b n at
+  pub step-frame : {a : Stepped} → length b ≤ batchLimit → at < length b → a ≡ answerOf (frameAt b n at) → a ≡ stepAt b n at
   unfolding stepAt
   step-frame h l a = rw (le-leb (length b) batchLimit h, lt-ltb at (length b) l) a
 
-module _ (b : List ℕ) (n at : ℕ) {got : Answer} (is : got ≡ stepAt b n at) where
+module _ (b : List ℕ) (n at : ℕ) {got : Stepped} (is : got ≡ stepAt b n at) where
   pub place-refused : {r : Refusal} → got ≡ answer.Refused r → at ≡ placeAfter b n at
   unfolding placeAfter
   place-refused e = rw (← is, e)

@@ -11,12 +11,12 @@ use Rattle.tables.specs.Limits.{frameLimit, batchLimit}
 use Rattle.tables.specs.declared.refusal.Checked.{Checked}
 use Rattle.tables.specs.declared.refusal.Checked.the-variants.{Fine, Refused}
 use Rattle.frames.specs.Frames.{frameCheck, endOf, frameOf, answered, frameAt}
-use Rattle.frames.specs.declared.Frame.{Frame}
+use Rattle.outcomes.specs.declared.frames.Frame.{Frame}
 use Rattle.frames.proofs.Ending.{end-behind}
 use Rattle.frames.proofs.Accepted.{frame-below, end-room}
 use Rattle.walker.specs.Walker.{answerOf, stepAt}
-use Rattle.walker.specs.declared.Answer.{Answer}
-use Rattle.walker.specs.declared.Answer.the-variants as answer
+use Rattle.outcomes.specs.declared.frames.Stepped.{Stepped}
+use Rattle.outcomes.specs.declared.frames.Stepped.the-variants as answer
 
 -- f is frame n, and stands at this place of a batch within its limit
 pub record Given (b : List ℕ) (n at : ℕ) (f : Frame) : Type 0 where
@@ -37,7 +37,7 @@ given b n at {f} e = go (leb (length b) batchLimit) refl (ltb at (length b)) (fr
     go false h t c fine e = let z : _≡_ {A = ℕ} 0 1 = cc in absurd (omega arith)
 
 -- the part from its place to its end lies within the batch
-module _ (b : List ℕ) (n at : ℕ) {got : Answer} {f : Frame} (is : got ≡ stepAt b n at) (e : got ≡ answer.Frame f) where
+module _ (b : List ℕ) (n at : ℕ) {got : Stepped} {f : Frame} (is : got ≡ stepAt b n at) (e : got ≡ answer.Frame f) where
   here : Given b n at f
   here = given b n at (rw (← is) e)
 

@@ -8,9 +8,9 @@ use Rattle.tables.specs.Limits.{batchLimit}
 use Rattle.tables.specs.declared.refusal.Refusal.{Refusal}
 use Rattle.parts.specs.Parts.{part}
 use Rattle.frames.specs.Frames.{endOf, frameOf}
-use Rattle.frames.specs.declared.Frame.{Frame}
+use Rattle.outcomes.specs.declared.frames.Frame.{Frame}
 use Rattle.walker.specs.Walker.{stepAt, placeAfter, numberAfter, partAt}
-use Rattle.walker.specs.declared.Answer.the-variants as answer
+use Rattle.outcomes.specs.declared.frames.Stepped.the-variants as answer
 use Rattle.walker.proofs.Given.{given}
 use Rattle.walker.proofs.Branches.{place-refused, place-frame, place-over, number-refused, number-frame, number-over}
 

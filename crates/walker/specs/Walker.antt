@@ -7,31 +7,31 @@ use lib.ListN.{length}
 use Rattle.tables.specs.Limits.{batchLimit}
 use Rattle.parts.specs.Parts.{part}
 use Rattle.frames.specs.Frames.{frameAt}
-use Rattle.frames.specs.declared.Framed.{Framed}
-use Rattle.frames.specs.declared.Framed.the-variants as framed
-use Rattle.walker.specs.declared.Answer.{Answer}
-use Rattle.walker.specs.declared.Answer.the-variants as answer
+use Rattle.outcomes.specs.declared.frames.Framed.{Framed}
+use Rattle.outcomes.specs.declared.frames.Framed.the-variants as framed
+use Rattle.outcomes.specs.declared.frames.Stepped.{Stepped}
+use Rattle.outcomes.specs.declared.frames.Stepped.the-variants as answer
 
 -- a frame or its refusal, as it is given
-abbrev pub answerOf : Framed → Answer
+abbrev pub answerOf : Framed → Stepped
 answerOf (framed.Refused r) = answer.Refused r
 answerOf (framed.Found f) = answer.Frame f
 
 -- over 16,384 words 10 at every call; at the end none is left; else frame n at the place, or its refusal
-unfoldable pub stepAt : List ℕ → ℕ → ℕ → Answer
+unfoldable pub stepAt : List ℕ → ℕ → ℕ → Stepped
 stepAt b n at =
     cond (leb (length b) batchLimit)
     (cond (ltb at (length b)) (answerOf (frameAt b n at)) answer.Over)
     (answer.Refused (record { number = 10; table = 6; place = 0 }))
 
 -- behind a frame its end, else the same place
-abbrev pub placeOf : Answer → ℕ → ℕ
+abbrev pub placeOf : Stepped → ℕ → ℕ
 placeOf (answer.Refused r) at = at
 placeOf (answer.Frame f) at = f .next
 placeOf answer.Over at = at
 
 -- behind a frame the next number, else the same
-abbrev pub numberOf : Answer → ℕ → ℕ
+abbrev pub numberOf : Stepped → ℕ → ℕ
 numberOf (answer.Refused r) n = n
 numberOf (answer.Frame f) n = n + 1
 numberOf answer.Over n = n

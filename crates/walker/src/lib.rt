@@ -1,7 +1,7 @@
 // The frame walker: it keeps the lent batch and its own place, and gives one frame after another.
-use frames::Frame;
-use frames::Framed;
 use frames::read_frame;
+use outcomes::frames::Framed;
+use outcomes::frames::Stepped;
 use tables::limits::BATCH_LIMIT;
 use tables::refusal::Refusal;
 ghost use mathlib.Core.Path.{_≡_};
@@ -15,36 +15,29 @@ pub struct Walker<'a> {
     pub number: usize,
 }
 
-// What a call gives: the refusal, the frame, or that none is left.
-pub enum Answer {
-    Refused(Refusal),
-    Frame(Frame),
-    Over,
-}
-
 // The frame at a place within the batch, or its refusal.
-fn framed(b: &[u16], n: usize, at: usize) -> Answer
+fn framed(b: &[u16], n: usize, at: usize) -> Stepped
     ensures { λ r. ⌜ r ≡ answerOf (frameAt (now (b .entry)) n at) ⌝ }
 {
     match read_frame(b, n, at) {
-        Framed::Refused(r) => Answer::Refused(r),
-        Framed::Found(f) => Answer::Frame(f),
+        Framed::Refused(r) => Stepped::Refused(r),
+        Framed::Found(f) => Stepped::Frame(f),
     }
 }
 
 // What stands at a place of the batch, as frame n: the words first, then the frame.
-pub fn step(b: &[u16], n: usize, at: usize) -> Answer
+pub fn step(b: &[u16], n: usize, at: usize) -> Stepped
     ensures { λ r. ⌜ r ≡ stepAt (now (b .entry)) n at ⌝ }
 {
     if BATCH_LIMIT < b.len() {
-        return Answer::Refused(Refusal {
+        return Stepped::Refused(Refusal {
             number: 10,
             table: 6,
             place: 0,
         });
     }
     if b.len() <= at {
-        return Answer::Over;
+        return Stepped::Over;
     }
     framed(b, n, at)
 }
@@ -54,9 +47,9 @@ pub fn place_after(b: &[u16], n: usize, at: usize) -> usize
     ensures { λ r. ⌜ r ≡ placeAfter (now (b .entry)) n at ⌝ }
 {
     match step(b, n, at) {
-        Answer::Refused(_) => at,
-        Answer::Frame(f) => f.next,
-        Answer::Over => at,
+        Stepped::Refused(_) => at,
+        Stepped::Frame(f) => f.next,
+        Stepped::Over => at,
     }
 }
 
@@ -65,9 +58,9 @@ pub fn number_after(b: &[u16], n: usize, at: usize) -> usize
     ensures { λ r. ⌜ r ≡ numberAfter (now (b .entry)) n at ⌝ }
 {
     match step(b, n, at) {
-        Answer::Refused(_) => n,
-        Answer::Frame(_) => n + 1,
-        Answer::Over => n,
+        Stepped::Refused(_) => n,
+        Stepped::Frame(_) => n + 1,
+        Stepped::Over => n,
     }
 }
 
@@ -76,12 +69,12 @@ pub fn frame_part(b: &[u16], n: usize, at: usize) -> &[u16]
     ensures { λ r. ⌜ now r ≡ partAt (now (b .entry)) n at ⌝ }
 {
     match step(b, n, at) {
-        Answer::Refused(_) => &b[0..0],
-        Answer::Frame(f) => {
+        Stepped::Refused(_) => &b[0..0],
+        Stepped::Frame(f) => {
             let end = f.next;
             &b[at..end]
         }
-        Answer::Over => &b[0..0],
+        Stepped::Over => &b[0..0],
     }
 }
 
@@ -97,7 +90,7 @@ pub fn new<'a>(b: &'a [u16]) -> Walker<'a>
 }
 
 // The frame at its place, its refusal, or that none is left.
-pub fn next<'a>(w: Walker<'a>) -> Answer
+pub fn next<'a>(w: Walker<'a>) -> Stepped
     ensures { λ r. ⌜ r ≡ stepAt (now (w .entry .batch)) (w .entry .number) (w .entry .at) ⌝ }
 {
     step(w.batch, w.number, w.at)

@@ -10,9 +10,9 @@ use Rattle.tables.specs.declared.refusal.Refusal.{Refusal}
 use Rattle.tables.specs.declared.refusal.Checked.{Checked}
 use Rattle.tables.specs.declared.refusal.Checked.the-variants.{Fine, Refused}
 use Rattle.frames.specs.Frames.{endOf, frameAt}
-use Rattle.frames.specs.declared.Frame.{Frame}
-use Rattle.frames.specs.declared.Framed.{Framed}
-use Rattle.frames.specs.declared.Framed.the-variants as framed
+use Rattle.outcomes.specs.declared.frames.Frame.{Frame}
+use Rattle.outcomes.specs.declared.frames.Framed.{Framed}
+use Rattle.outcomes.specs.declared.frames.Framed.the-variants as framed
 use Rattle.whole.specs.Whole.{wholeCheck}
 use Rattle.batches.proofs.Left.{frame-fine, frame-next, frame-why}
 

@@ -1,6 +1,6 @@
 // A frame that takes all words from its place on.
-use frames::Framed;
 use frames::read_frame;
+use outcomes::frames::Framed;
 use tables::limits::BATCH_LIMIT;
 use tables::refusal::Checked;
 use tables::refusal::refused;
