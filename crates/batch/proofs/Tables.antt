@@ -6,7 +6,7 @@ use mathlib.Core.List.{List}
 use lib.Dec.{eqb, ltb, leb}
 use lib.ListN.{length}
 use Rattle.tables.specs.Words.{steps, nodes, tag}
-use Rattle.tables.specs.Checks.{_then_, test, refuse, each, sizeCheck, axisRight, axisCheck, patternCheck, parentRight, nodeCheck, treeCheck}
+use Rattle.tables.specs.Checks.{test, refuse, each, sizeCheck, axisRight, axisCheck, patternCheck, parentRight, nodeCheck, treeCheck}
 use Rattle.tables.specs.declared.refusal.Refusal.{Refusal}
 use Rattle.tables.specs.declared.refusal.Checked.{Checked}
 use Rattle.tables.specs.declared.refusal.Checked.the-variants.{Fine, Refused}

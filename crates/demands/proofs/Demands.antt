@@ -23,7 +23,7 @@ use Rattle.outcomes.specs.declared.updates.Deleted.the-variants as deleted
 use Rattle.outcomes.specs.declared.updates.Inserted.the-variants as inserted
 use Rattle.updating.proofs.Deletes.{delete-same}
 use Rattle.updating.proofs.Inserts.{insert-same}
-use Rattle.conflict.specs.Conflict.{Update, Conflict, after, delete, insert}
+use Rattle.conflict.specs.Conflict.{Update, Conflict, after}
 use Rattle.admission.specs.Order.{verdictCheck}
 use Rattle.verdict.specs.Promise.{NodeVerdict, witnessNodes}
 use Rattle.outcomes.specs.declared.verdicts.Verdict.{Verdict}

@@ -23,7 +23,8 @@ use Rattle.selection.specs.Embeddings.{Selects}
 use Rattle.selection.specs.Rows.{Row}
 use Rattle.conflict.specs.Conflict.{Update, delete, insert, pattern, after as after-update, Witness, Conflict}
 use Rattle.admission.specs.Order.{verdictCheck}
-use Rattle.verdict.specs.Promise.{NodeVerdict, DeepVerdict, witnessNodes}
+use Rattle.verdict.specs.Promise.{NodeVerdict, witnessNodes}
+use Rattle.deep.specs.Promise.{DeepVerdict}
 use Rattle.outcomes.specs.declared.verdicts.Verdict.{Verdict}
 use Rattle.outcomes.specs.declared.verdicts.Verdict.the-variants as verdict
 use Rattle.outcomes.specs.declared.verdicts.Deeply.the-variants as deep

@@ -12,7 +12,7 @@ use Rattle.conflict.specs.Conflict.{Update, delete, insert}
 use Rattle.admission.specs.Order.{roomCheck, deepDeleteCheck, deepInsertCheck, deleteCheck, insertCheck, deepCheck, verdictCheck}
 use Rattle.verdict.specs.Promise.{NodeVerdict}
 use Rattle.admission.proofs.Accepting.{delete-longest, insert-longest}
-use Rattle.verdict.proofs.Promise.{never}
+use Rattle.tables.proofs.Accepted.{never}
 use Rattle.outcomes.specs.declared.verdicts.Verdict.{Verdict}
 use Rattle.outcomes.specs.declared.verdicts.Verdict.the-variants as verdict
 use Rattle.judging.specs.Judging.{Clash}
@@ -39,7 +39,7 @@ module _ (r : List ℕ) (out after : List ℕ) (long : length out ≡ longest) w
   room-aside (insert p x) e = then-first (deepInsertCheck r p x) (roomCheck r p (length out)) e
 
   pub told : (u : Update) (answer : Verdict) → NodeVerdict r u out after answer → (said answer ≡ true) ↔ Clash r u
-  told u (verdict.Refused why) v = ((λ e. absurd (false≢true e)), (λ c. absurd (never (v .given) (room-enough u (c .fine)))))
+  told u (verdict.Refused why) v = ((λ e. absurd (false≢true e)), (λ c. never (v .given) (room-enough u (c .fine))))
   told u verdict.Clear v = ((λ e. absurd (false≢true e)), (λ c. absurd (v .none (c .conflict))))
   told u (verdict.Conflict n) v = (
     (λ e. record { fine = room-aside u (v .fine); conflict = record { tree = take (2 * n) after; shows = v .witness } }),

@@ -6,7 +6,7 @@ use tables::words::second_word;
 ghost use mathlib.Core.Path.{_≡_};
 ghost use mathlib.Core.Bool.{cond};
 ghost use mathlib.Core.List.{_++_};
-ghost use lib.ListN.{length, drop};
+ghost use lib.ListN.{drop};
 ghost use Rattle.tables.specs.Words.{nodes, tag};
 ghost use Rattle.selection.specs.Lists.{tab};
 ghost use Rattle.selection.specs.Ways.{takes, last};

@@ -13,8 +13,10 @@ use Rattle.updating.proofs.Settled.{delete-one, insert-one}
 use Rattle.conflict.specs.Conflict.{Update}
 use Rattle.outcomes.specs.declared.verdicts.Verdict.{Verdict}
 use Rattle.outcomes.specs.declared.verdicts.Verdict.the-variants as verdict
-use Rattle.verdict.specs.Promise.{NodeVerdict, witnessNodes, DeepVerdict}
-use Rattle.verdict.proofs.Promise.{verdict-one, deep-one}
+use Rattle.verdict.specs.Promise.{NodeVerdict, witnessNodes}
+use Rattle.verdict.proofs.Promise.{verdict-one}
+use Rattle.deep.specs.Promise.{DeepVerdict}
+use Rattle.deep.proofs.Promise.{deep-one}
 use Rattle.batch.specs.Batch.{Plan}
 use Rattle.batch.proofs.Laws.{plan-one}
 use Rattle.lines.specs.Lines.{ReadAs}

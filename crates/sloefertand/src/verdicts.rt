@@ -1,13 +1,14 @@
 // Whether a read r and an update at p conflict.
 use answers::answer::Answer;
+use deep::deep_delete_verdict;
+use deep::deep_insert_verdict;
 use numbers::deeply;
 use numbers::judged;
-use verdict::deep::deep_delete_verdict;
-use verdict::deep::deep_insert_verdict;
 use verdict::node::delete_verdict;
 use verdict::node::insert_verdict;
 ghost use Rattle.conflict.specs.Conflict.{delete, insert};
-ghost use Rattle.verdict.specs.Promise.{NodeVerdict, DeepVerdict};
+ghost use Rattle.verdict.specs.Promise.{NodeVerdict};
+ghost use Rattle.deep.specs.Promise.{DeepVerdict};
 ghost use Rattle.answers.specs.Answers.{Told};
 ghost use Rattle.numbers.specs.Numbers.{ofVerdict, ofDeeply};
 

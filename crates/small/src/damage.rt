@@ -48,29 +48,24 @@ fn show_run(name: usize, w: usize, from: usize, to: usize, a: usize) {
     show_answer(a);
 }
 
-// Word i, or the value at w.
-fn word_with(b: &[u16], w: usize, value: u16, i: usize) -> u16 {
-    if i == w {
-        return value;
-    }
-    word_of(b, i)
-}
-
-// The batch with word w replaced.
-fn with_value(b: &[u16], w: usize, value: u16) -> [u16; ROOM] {
+// The batch, with room behind it.
+fn copied(b: &[u16]) -> [u16; ROOM] {
     let mut words = [0u16; ROOM];
     let mut i = 0;
     while i < ROOM {
-        words[i] = word_with(b, w, value, i);
+        words[i] = word_of(b, i);
         i += 1;
     }
     words
 }
 
-// The answer with word w replaced.
-fn replaced(b: &[u16], w: usize, value: u16, frames: usize) -> usize {
-    let words = with_value(b, w, value);
-    answer(front(&words, b.len()), frames)
+// The answer for the first n words with word w replaced.
+fn replaced(words: &mut [u16], w: usize, value: u16, n: usize, frames: usize) -> usize {
+    if words.len() <= w {
+        return 0;
+    }
+    words[w] = value;
+    answer(front(words, n), frames)
 }
 
 // A word of a batch, 0 outside.
@@ -83,11 +78,13 @@ fn word_of(b: &[u16], i: usize) -> u16 {
 
 // Word w replaced by every value.
 fn values(name: usize, b: &[u16], w: usize, frames: usize) {
+    let n = b.len();
+    let mut words = copied(b);
     let mut from = 0;
-    let mut last = replaced(b, w, 0, frames);
+    let mut last = replaced(&mut words, w, 0, n, frames);
     let mut value = 1;
     while value < 65536 {
-        let a = replaced(b, w, (value % 65536) as u16, frames);
+        let a = replaced(&mut words, w, (value % 65536) as u16, n, frames);
         if a != last {
             show_run(name, w, from, earlier_than(value, 0), last);
             from = value;

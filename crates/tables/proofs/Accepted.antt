@@ -11,20 +11,21 @@ use Rattle.tables.specs.declared.refusal.Checked.{Checked}
 use Rattle.tables.specs.declared.refusal.Checked.the-variants.{Fine, Refused}
 use Rattle.tables.specs.Checks.{_then_, test, each, outputCheck}
 
-never : {A : Type 0} (r : Refusal) → Refused r ≡ Fine → A
-never r e = let z : _≡_ {A = ℕ} 0 1 = cc in absurd (omega arith)
+-- a check that is fine is no refusal
+pub never : {A : Type 0} {c : Checked} {r : Refusal} → c ≡ Refused r → c ≡ Fine → A
+never e f = let z : _≡_ {A = ℕ} 0 1 = cc in absurd (omega arith)
 
 pub held : (b : Bool) (r : Refusal) → test b (Refused r) ≡ Fine → b ≡ true
 held true r e = refl
-held false r e = never r e
+held false r e = never refl e
 
 pub then-first : (a b : Checked) → (a then b) ≡ Fine → a ≡ Fine
 then-first Fine b e = refl
-then-first (Refused r) b e = never r e
+then-first (Refused r) b e = never refl e
 
 pub then-second : (a b : Checked) → (a then b) ≡ Fine → b ≡ Fine
 then-second Fine b e = e
-then-second (Refused r) b e = never r e
+then-second (Refused r) b e = never refl e
 
 -- and back: where both checks are fine, so is one after the other
 pub then-both : (a b : Checked) → a ≡ Fine → b ≡ Fine → (a then b) ≡ Fine

@@ -1,7 +1,7 @@
 // Words of a table as numbers. Outside the table each of these is 0, so that none asks anything of its caller.
 ghost use mathlib.Core.Path.{_≡_};
 ghost use lib.ListN.{getD};
-ghost use Rattle.tables.specs.Words.{axis, label, parent, tag};
+ghost use Rattle.tables.specs.Words.{parent, tag};
 
 fn wide(x: u16) -> usize
     ensures { λ r. ⌜ r ≡ x ⌝ }

@@ -4,7 +4,6 @@ use mathlib.Core.Path.{_≡_, refl, sym, _∙_}
 use mathlib.Core.Bool.{cond}
 use mathlib.Core.List.{List}
 use native.Mathlib.Nat.{le-trans}
-use native.Mathlib.Omega.{arith}
 use lib.Dec.{leb}
 use lib.ListN.{length}
 use borrow.Author.Tests.{le-leb}
@@ -14,6 +13,7 @@ use Rattle.tables.specs.Checks.{_then_, test, refuse, documentCheck, patternChe
 use Rattle.tables.specs.declared.refusal.Refusal.{Refusal}
 use Rattle.tables.specs.declared.refusal.Checked.{Checked}
 use Rattle.tables.specs.declared.refusal.Checked.the-variants.{Fine, Refused}
+use Rattle.tables.proofs.Accepted.{never}
 use Rattle.tables.proofs.Soundness.{used-facts}
 use Rattle.selection.specs.Lists.{rising, count}
 use Rattle.selection.specs.Ways.{selected}
@@ -63,10 +63,7 @@ module _ (p : List ℕ) (d : Doc) (before : List ℕ) (long : usedLimit ≤ leng
 
   pub asked-off : {r : Refusal} → got ≡ Refused r → Asked (documentCheck d then patternCheck p stepLimit 2 then rest) p d before after (Refused r)
   unfolding whole
-  asked-off told = record { answered = rw told at is-whole; row = λ fine. absurd (refused-fine fine) }
-    where
-      refused-fine : {r : Refusal} → Refused r ≡ Fine → ⊥
-      refused-fine e = let z : _≡_ {A = ℕ} 0 1 = cc in omega arith
+  asked-off told = record { answered = rw told at is-whole; row = λ fine. never refl fine }
 
 -- the row of a read: a byte for each used node, 1 where it is selected
 module _ (p : List ℕ) (d : Doc) (before : List ℕ) {after : List ℕ} (e : after ≡ readRow p d before) where

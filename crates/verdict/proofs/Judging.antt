@@ -1,18 +1,14 @@
 -- From the number of a way and the check to the verdict.
-use Prim.Native.Nat.{ℕ, _*_, _<_, _≤_}
+use Prim.Native.Nat.{ℕ, _*_}
 use mathlib.Core.Path.{_≡_}
-use mathlib.Core.Bool.{Bool, true, _||_, cond}
 use mathlib.Core.List.{List, _++_}
-use lib.Dec.{ltb}
 use lib.ListN.{length, drop}
-use borrow.Author.Tests.{eq-eqb, ne-eqb, lt-ltb, le-ltb}
+use borrow.Author.Tests.{eq-eqb, ne-eqb}
 use Rattle.tables.specs.declared.refusal.Refusal.{Refusal}
 use Rattle.tables.specs.declared.refusal.Checked.{Checked}
 use Rattle.tables.specs.declared.refusal.Checked.the-variants.{Fine, Refused}
 use Rattle.outcomes.specs.declared.verdicts.Verdict.{Verdict}
 use Rattle.outcomes.specs.declared.verdicts.Verdict.the-variants.{Clear, Conflict, Refused as NotJudged}
-use Rattle.outcomes.specs.declared.verdicts.Deeply.{Deeply}
-use Rattle.outcomes.specs.declared.verdicts.Deeply.the-variants.{No, Yes, Refused as NotDeep}
 use Rattle.conflict.specs.Crossing.{chain}
 use Rattle.verdict.specs.Verdict.{foundOf}
 use Rattle.ways.specs.Ways.{Written}
@@ -29,11 +25,6 @@ outputOf (Refused why) way out = out
 pub record Judged (check : Checked) (way before after : List ℕ) (answer : Verdict) : Type 0 where
   pub says : answer ≡ verdictOf check (length way)
   pub writes : after ≡ outputOf check way before
-
--- the deep verdict of a check and a test
-unfoldable pub deeplyOf : Checked → Bool → Deeply
-deeplyOf Fine b = cond b Yes No
-deeplyOf (Refused why) b = NotDeep why
 
 pub found-none : (n : ℕ) → n ≡ 0 → Clear ≡ foundOf n
 unfolding foundOf
@@ -55,19 +46,3 @@ module _ {got : Checked} (check : Checked) (e : got ≡ check) where
   pub judged-off : {why : Refusal} (way out : List ℕ) → got ≡ Refused why → Judged check way out out (NotJudged why)
   unfolding verdictOf outputOf
   judged-off way out told = record { says = rw (← e, told); writes = rw (← e, told) }
-
-  pub deeply-on : {answer : Deeply} {given : Bool} (b : Bool) → got ≡ Fine → given ≡ b → answer ≡ cond given Yes No → answer ≡ deeplyOf check b
-  unfolding deeplyOf
-  deeply-on b told d a = rw (← e, told, ← d) a
-
-  pub deeply-off : {why : Refusal} (b : Bool) → got ≡ Refused why → NotDeep why ≡ deeplyOf check b
-  unfolding deeplyOf
-  deeply-off b told = rw (← e, told)
-
--- a node conflict, or none and an update point below
-module _ {n : ℕ} (way before after : List ℕ) (touch : Bool) (w : Written way before after n) where
-  pub conflict-deep : 0 < n → true ≡ (ltb 0 (length way) || touch)
-  conflict-deep h = rw (← w .count, lt-ltb 0 n h)
-
-  pub clear-deep : {b : Bool} → n ≤ 0 → b ≡ touch → b ≡ (ltb 0 (length way) || touch)
-  clear-deep h e = rw (← w .count, le-ltb 0 n h, e)

@@ -1,4 +1,4 @@
--- What the verdicts promise, by cases on the answer: r is the read, u the update, and the output is held before and after.
+-- What the verdict promises, by cases on the answer: r is the read, u the update, and the output is held before and after.
 use Prim.Native.Nat.{ℕ, _+_, _*_, _-_, _<_, _≤_}
 use mathlib.Core.Path.{_≡_}
 use mathlib.Core.List.{List}
@@ -6,12 +6,10 @@ use lib.ListN.{length, take, drop}
 use Rattle.tables.specs.Words.{steps, nodes}
 use Rattle.tables.specs.declared.refusal.Refusal.{Refusal}
 use Rattle.tables.specs.declared.refusal.Checked.the-variants.{Fine, Refused}
-use Rattle.conflict.specs.Conflict.{Update, pattern, Witness, Conflict, Deep}
+use Rattle.conflict.specs.Conflict.{Update, pattern, Witness, Conflict}
 use Rattle.outcomes.specs.declared.verdicts.Verdict.{Verdict}
 use Rattle.outcomes.specs.declared.verdicts.Verdict.the-variants.{Clear, Conflict as Found, Refused as NotJudged}
-use Rattle.outcomes.specs.declared.verdicts.Deeply.{Deeply}
-use Rattle.outcomes.specs.declared.verdicts.Deeply.the-variants.{No, Yes, Refused as NotDeep}
-use Rattle.admission.specs.Order.{verdictCheck, deepCheck}
+use Rattle.admission.specs.Order.{verdictCheck}
 
 -- refused: the order gives this refusal, and the output is as it was
 pub record IsRefused (r : List ℕ) (u : Update) (before after : List ℕ) (why : Refusal) : Type 0 where
@@ -46,19 +44,3 @@ abbrev pub witnessNodes : Verdict → ℕ
 witnessNodes (NotJudged why) = 0
 witnessNodes Clear = 0
 witnessNodes (Found n) = n
-
--- no: neither a node conflict nor, in any tree, an update point below a node that the read selects
-pub record IsNo (r : List ℕ) (u : Update) : Type 0 where
-  pub fine : deepCheck r u ≡ Fine
-  pub none : Deep r u → ⊥
-
--- yes: one or the other
-pub record IsYes (r : List ℕ) (u : Update) : Type 0 where
-  pub fine : deepCheck r u ≡ Fine
-  pub some : Deep r u
-
--- what the deep verdict promises
-abbrev pub DeepVerdict : List ℕ → Update → Deeply → Type 0
-DeepVerdict r u (NotDeep why) = deepCheck r u ≡ Refused why
-DeepVerdict r u No = IsNo r u
-DeepVerdict r u Yes = IsYes r u

@@ -1,21 +1,10 @@
--- What the private functions answer: the number of a way as a verdict, and the tests of the deep verdict.
+-- What the private function answers: the number of a way as a verdict.
 use Prim.Native.Nat.{ℕ}
-use mathlib.Core.Bool.{Bool, _||_, cond}
-use mathlib.Core.List.{List}
-use lib.Dec.{eqb, ltb}
-use lib.ListN.{length}
-use Rattle.conflict.specs.Crossing.{deleteWay, insertWay}
-use Rattle.ways.specs.Ways.{touches}
+use mathlib.Core.Bool.{cond}
+use lib.Dec.{eqb}
 use Rattle.outcomes.specs.declared.verdicts.Verdict.{Verdict}
 use Rattle.outcomes.specs.declared.verdicts.Verdict.the-variants.{Clear, Conflict}
 
 -- a conflict with the number of nodes of its witness, or none
 unfoldable pub foundOf : ℕ → Verdict
 foundOf n = cond (eqb n 0) Clear (Conflict n)
-
--- the deep verdict: a node conflict, or an update point below a node that is read
-unfoldable pub deleteDeep : List ℕ → List ℕ → Bool
-deleteDeep r p = ltb 0 (length (deleteWay r p)) || touches r p
-
-unfoldable pub insertDeep : List ℕ → List ℕ → List ℕ → Bool
-insertDeep r p x = ltb 0 (length (insertWay r p x)) || touches r p

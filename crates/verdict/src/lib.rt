@@ -1,3 +1,2 @@
-// The verdict: whether a read and an update conflict, with a smallest witness; and the deep verdict.
-pub mod deep;
+// The verdict: whether a read and an update conflict, with a smallest witness.
 pub mod node;

@@ -1,3 +1,4 @@
 -- Laws of shortest ways.
 pub mod Marked
 pub mod Allowed
+pub mod Deciding

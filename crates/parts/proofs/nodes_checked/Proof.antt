@@ -7,7 +7,7 @@ use borrow.Author.Needs.{needs}
 use Rattle.tables.specs.Limits.{treeLimit}
 use Rattle.tables.specs.Checks.{treeCheck}
 use Rattle.tables.proofs.Branches.{then-off}
-use Rattle.parts.specs.Parts.{count, nodesCheck}
+use Rattle.parts.specs.Parts.{nodesCheck}
 use Rattle.parts.proofs.Branches.{count-room, part-on}
 use Rattle.parts.proofs.nodes_checked.Statement.{statement}
 use Rattle.parts.proofs.nodes_checked.Tie as tie

@@ -7,7 +7,7 @@ use borrow.Author.Needs.{needs}
 use Rattle.tables.specs.Limits.{stepLimit}
 use Rattle.tables.specs.Checks.{patternCheck}
 use Rattle.tables.proofs.Branches.{then-off}
-use Rattle.parts.specs.Parts.{count, stepsCheck}
+use Rattle.parts.specs.Parts.{stepsCheck}
 use Rattle.parts.proofs.Branches.{count-room, part-on}
 use Rattle.parts.proofs.steps_checked.Statement.{statement}
 use Rattle.parts.proofs.steps_checked.Tie as tie

@@ -1,17 +1,17 @@
 -- The loop ends: what is left of its range falls.
 use Prim.Native.Nat.{_≤_, _-_}
 use borrow.Author.Needs.{needs}
-use Rattle.small.proofs.damage.with_value.Statement.{statement}
-use Rattle.small.proofs.damage.with_value.Tie as tie
+use Rattle.small.proofs.damage.copied.Statement.{statement}
+use Rattle.small.proofs.damage.copied.Tie as tie
 
 abbrev Inv-loop : tie.InvT-loop
-Inv-loop b w value words₀ i₀ words i = i ≤ 32
+Inv-loop b words₀ i₀ words i = i ≤ 32
 
 abbrev μ-loop : tie.MeasureT-loop
-μ-loop b w value words₀ i₀ words i = 32 - i
+μ-loop b words₀ i₀ words i = 32 - i
 
-pub with-value-spec : {M : Type 1} → statement M
-with-value-spec =
+pub copied-spec : {M : Type 1} → statement M
+copied-spec =
     tie.close
     (tie.spec
     Inv-loop

@@ -1,11 +1,11 @@
 -- The check, and where it is fine the answer.
 use mathlib.Core.Path.{sym, _∙_}
-use Rattle.verdict.proofs.Judging.{deeply-on, deeply-off}
-use Rattle.verdict.proofs.Promise.{deep-delete-promise}
+use Rattle.deep.proofs.Judging.{deeply-on, deeply-off}
+use Rattle.deep.proofs.Promise.{deep-delete-promise}
 use native.Mathlib.Omega.{arith}
 use borrow.Author.Needs.{needs}
-use Rattle.verdict.proofs.deep.deep_delete_verdict.Statement.{statement}
-use Rattle.verdict.proofs.deep.deep_delete_verdict.Tie as tie
+use Rattle.deep.proofs.deep_delete_verdict.Statement.{statement}
+use Rattle.deep.proofs.deep_delete_verdict.Tie as tie
 
 pub deep-delete-verdict-spec : {M : Type 1} → statement M
 deep-delete-verdict-spec =

@@ -1,11 +1,11 @@
 -- A node conflict, or an update point below.
 use Rattle.admission.proofs.Accepting.{delete-patterns, delete-longest}
 use Rattle.ways.proofs.Allowed.{granted, granted-test}
-use Rattle.verdict.proofs.Judging.{conflict-deep, clear-deep}
-use Rattle.verdict.specs.Verdict.{deleteDeep}
+use Rattle.deep.proofs.Judging.{conflict-deep, clear-deep}
+use Rattle.deep.specs.Deep.{deleteDeep}
 use borrow.Author.Needs.{needs}
-use Rattle.verdict.proofs.deep.delete_deep.Statement.{statement}
-use Rattle.verdict.proofs.deep.delete_deep.Tie as tie
+use Rattle.deep.proofs.delete_deep.Statement.{statement}
+use Rattle.deep.proofs.delete_deep.Tie as tie
 
 pub delete-deep-spec : {M : Type 1} → statement M
 unfolding deleteDeep

@@ -1,11 +1,11 @@
 -- A node conflict, or an update point below.
 use Rattle.admission.proofs.Accepting.{insert-patterns, insert-longest}
 use Rattle.ways.proofs.Allowed.{granted, granted-test}
-use Rattle.verdict.proofs.Judging.{conflict-deep, clear-deep}
-use Rattle.verdict.specs.Verdict.{insertDeep}
+use Rattle.deep.proofs.Judging.{conflict-deep, clear-deep}
+use Rattle.deep.specs.Deep.{insertDeep}
 use borrow.Author.Needs.{needs}
-use Rattle.verdict.proofs.deep.insert_deep.Statement.{statement}
-use Rattle.verdict.proofs.deep.insert_deep.Tie as tie
+use Rattle.deep.proofs.insert_deep.Statement.{statement}
+use Rattle.deep.proofs.insert_deep.Tie as tie
 
 pub insert-deep-spec : {M : Type 1} → statement M
 unfolding insertDeep

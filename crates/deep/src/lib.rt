@@ -16,8 +16,8 @@ ghost use Rattle.conflict.specs.Conflict.{delete, insert};
 ghost use Rattle.outcomes.specs.declared.verdicts.Deeply.the-variants.{No, Yes};
 ghost use Rattle.tables.specs.declared.refusal.Checked.the-variants.{Fine};
 ghost use Rattle.admission.specs.Order.{deepDeleteCheck, deepInsertCheck};
-ghost use Rattle.verdict.specs.Promise.{DeepVerdict};
-ghost use Rattle.verdict.specs.Verdict.{deleteDeep, insertDeep};
+ghost use Rattle.deep.specs.Promise.{DeepVerdict};
+ghost use Rattle.deep.specs.Deep.{deleteDeep, insertDeep};
 
 // Words of the longest witness.
 const WORDS: usize = 2 * (STEP_LIMIT + STEP_LIMIT - 1);

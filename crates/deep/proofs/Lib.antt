@@ -1,0 +1,3 @@
+-- Laws of the deep verdict.
+pub mod Judging
+pub mod Promise
