@@ -1,5 +1,5 @@
 -- One copy into the free rest of the tables.
-use Prim.Native.Nat.{ℕ, _+_, _*_, _-_, _/_, min, _<_, _≤_}
+use Prim.Native.Nat.{ℕ, _+_, _*_, _-_, _<_, _≤_}
 use mathlib.Core.Path.{_≡_, refl, sym, _∙_}
 use mathlib.Core.Bool.{Bool, true, false, not}
 use mathlib.Core.List.{List, _++_, append-assoc, append-nil}
@@ -9,9 +9,9 @@ use lib.Dec.{leb}
 use lib.ListN.{length, getD, take, drop, replicate, length-take, length-drop, length-replicate, getD-replicate, List·getD-eq-default}
 use lib.Seq.{drop-drop, getD-drop, ext-getD}
 use borrow.Author.Tests.{le-leb, lt-leb, leb-true, not-true, not-false}
-use Rattle.tables.specs.Limits.{usedLimit, wordLimit}
+use Rattle.tables.specs.Limits.{wordLimit}
 use Rattle.tables.specs.Words.{nodes}
-use Rattle.tables.specs.Documents.{doc}
+use Rattle.tables.specs.Documents.{doc, capacity}
 use Rattle.tables.proofs.Soundness.{Words}
 use Rattle.selection.specs.Lists.{tab, front}
 use Rattle.selection.specs.Operations.{copyWords, graft}
@@ -21,11 +21,11 @@ use Rattle.copying.proofs.Held.{held-append, held-same}
 
 -- whether so many nodes fit
 module _ (end words marks : ℕ) where
-  pub fits-not : min usedLimit (min (words / 2) marks) < end → false ≡ leb end (min usedLimit (min (words / 2) marks))
-  fits-not h = sym (lt-leb end (min usedLimit (min (words / 2) marks)) h)
+  pub fits-not : capacity words marks < end → false ≡ leb end (capacity words marks)
+  fits-not h = sym (lt-leb end (capacity words marks) h)
 
-  pub fits-so : end ≤ min usedLimit (min (words / 2) marks) → true ≡ leb end (min usedLimit (min (words / 2) marks))
-  fits-so h = sym (le-leb end (min usedLimit (min (words / 2) marks)) h)
+  pub fits-so : end ≤ capacity words marks → true ≡ leb end (capacity words marks)
+  fits-so h = sym (le-leb end (capacity words marks) h)
 
 -- the free rest of a list comes back with a new front
 lent-back : (t first : List ℕ) (a n m : ℕ) → m ≡ a + n → a ≤ length t →
@@ -53,14 +53,14 @@ module _ (t : List ℕ) (words : Words t) (n : ℕ) where
   pub drop-held : held (drop n t) ≡ drop n t
   drop-held = held-same (drop n t) (λ i. rw getD-drop (words (n + i)))
 
-module _ (x : List ℕ) (q at : ℕ) (t m : List ℕ) {c : Bool} (is : c ≡ leb (at + nodes x) (min usedLimit (min (length t / 2) (length m)))) where
+module _ (x : List ℕ) (q at : ℕ) (t m : List ℕ) {c : Bool} (is : c ≡ leb (at + nodes x) (capacity (length t) (length m))) where
   pub graft-none : not c ≡ true → doc t m at ≡ copied x q (doc t m at)
   unfolding copied fitting
   graft-none h = rw (← is, not-true c h)
 
   module _ (fits : not c ≡ false) where
-    pub room : at + nodes x ≤ min usedLimit (min (length t / 2) (length m))
-    room = leb-true (at + nodes x) (min usedLimit (min (length t / 2) (length m))) (sym is ∙ not-false c fits)
+    pub room : at + nodes x ≤ capacity (length t) (length m)
+    room = leb-true (at + nodes x) (capacity (length t) (length m)) (sym is ∙ not-false c fits)
 
     -- a copy fits the free rest
     pub free-copyable : Copyable x at (take (length t - 2 * at) (drop (2 * at) t))

@@ -1,14 +1,14 @@
 -- What one copy keeps, for every table; and where every word of it is one, it is the graft.
-use Prim.Native.Nat.{ℕ, zero, suc, _+_, _*_, _/_, min, _<_, _≤_}
+use Prim.Native.Nat.{ℕ, zero, suc, _+_, _*_, _<_, _≤_}
 use mathlib.Core.Path.{_≡_, refl, _∙_}
 use mathlib.Core.Bool.{Bool, true, false, cond}
 use mathlib.Core.List.{List, _++_}
 use native.Mathlib.Omega.{arith}
 use lib.ListN.{length, drop}
 use borrow.Author.Tests.{leb-true}
-use Rattle.tables.specs.Limits.{usedLimit, wordLimit}
+use Rattle.tables.specs.Limits.{wordLimit}
 use Rattle.tables.specs.Words.{nodes, tag}
-use Rattle.tables.specs.Documents.{Doc, doc}
+use Rattle.tables.specs.Documents.{Doc, doc, capacity}
 use Rattle.tables.proofs.Soundness.{Words}
 use Rattle.selection.specs.Lists.{front}
 use Rattle.selection.specs.Operations.{copiedParent, copyWords, graft}
@@ -28,9 +28,9 @@ module _ (x : List ℕ) (q : ℕ) (d : Doc) where
       go true f = f refl
       go false f = same
 
-  room : fitting x d ≡ true → d .used + nodes x ≤ min usedLimit (min (length (d .rows) / 2) (length (d .marks)))
+  room : fitting x d ≡ true → d .used + nodes x ≤ capacity (length (d .rows)) (length (d .marks))
   unfolding fitting
-  room fits = leb-true (d .used + nodes x) (min usedLimit (min (length (d .rows) / 2) (length (d .marks)))) fits
+  room fits = leb-true (d .used + nodes x) (capacity (length (d .rows)) (length (d .marks))) fits
 
   pub copied-rows : length (copied x q d .rows) ≡ length (d .rows)
   copied-rows = by-fit (λ c. length (c .rows) ≡ length (d .rows)) (λ fits. length-held (graft x q d .rows) ∙ graft-rows-length x q d (omega (arith, room fits))) refl

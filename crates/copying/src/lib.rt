@@ -2,14 +2,14 @@
 use tables::limits::USED_LIMIT;
 use tables::limits::WORD_LIMIT;
 use tables::words::first_word;
-ghost use Prim.Native.Nat.{_+_, _*_, _/_, _%_, min, _≤_};
+ghost use Prim.Native.Nat.{_+_, _*_, _/_, _%_, _≤_};
 ghost use mathlib.Core.Path.{_≡_};
 ghost use mathlib.Core.List.{_++_};
 ghost use lib.Dec.{leb};
 ghost use lib.ListN.{length, drop};
 ghost use Rattle.tables.specs.Limits.{usedLimit, wordLimit};
 ghost use Rattle.tables.specs.Words.{nodes};
-ghost use Rattle.tables.specs.Documents.{doc};
+ghost use Rattle.tables.specs.Documents.{doc, capacity};
 ghost use Rattle.selection.specs.Lists.{tab};
 ghost use Rattle.selection.specs.Operations.{copiedParent, copyWords};
 ghost use Rattle.copying.specs.Copying.{held, copied, Copyable};
@@ -55,7 +55,7 @@ fn present(n: usize, marks: &mut [u8])
 
 // Whether n nodes more fit behind the `at` nodes already there.
 fn has_room(at: usize, n: usize, words: usize, marks: usize) -> bool
-    ensures { λ r. ⌜ r ≡ leb (at + n) (min usedLimit (min (words / 2) marks)) ⌝ }
+    ensures { λ r. ⌜ r ≡ leb (at + n) (capacity words marks) ⌝ }
 {
     if USED_LIMIT < at {
         return false;

@@ -14,7 +14,7 @@ use Rattle.tables.specs.declared.refusal.Refusal.{Refusal}
 use Rattle.tables.specs.declared.refusal.Checked.{Checked}
 use Rattle.tables.specs.declared.refusal.Checked.the-variants.{Fine, Refused}
 use Rattle.frames.specs.Frames.{frameCheck, frameOf, answered, frameAt}
-use Rattle.walker.specs.Walker.{answerOf, stepAt}
+use Rattle.walking.specs.Walking.{answerOf, stepAt}
 use Rattle.outcomes.specs.declared.frames.Stepped.the-variants as walker
 use Rattle.printer.proofs.Settled.{printed-one}
 use Rattle.reading.proofs.Laws.{read-selects}

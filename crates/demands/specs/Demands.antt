@@ -12,7 +12,7 @@ use Rattle.tables.specs.declared.refusal.Checked.{Checked}
 use Rattle.tables.specs.declared.refusal.Checked.the-variants.{Fine, Refused}
 use Rattle.tables.specs.Checks.{patternCheck, treeCheck, documentCheck}
 use Rattle.frames.specs.Frames.{frameCheck}
-use Rattle.walker.specs.Walker.{stepAt}
+use Rattle.walking.specs.Walking.{stepAt}
 use Rattle.outcomes.specs.declared.frames.Stepped.the-variants as walker
 use Rattle.plain.specs.Plain.{PlainRead}
 use Rattle.reading.specs.Reading.{Read}

@@ -12,14 +12,14 @@ use Rattle.tables.specs.Words.{steps, nodes}
 use Rattle.tables.specs.declared.refusal.Refusal.{Refusal}
 use Rattle.tables.specs.declared.refusal.Checked.{Checked}
 use Rattle.tables.specs.declared.refusal.Checked.the-variants.{Fine, Refused}
-use Rattle.tables.specs.Checks.{each, sizeCheck, patternCheck, nodeCheck, treeCheck}
+use Rattle.tables.specs.Checks.{whereFine, each, sizeCheck, patternCheck, nodeCheck, treeCheck}
 use Rattle.tables.proofs.Accepted.{then-first, then-second}
 use Rattle.tables.proofs.Soundness.{accepted-pattern, accepted-steps, accepted-nodes, accepted-some, node-falls}
 use Rattle.selection.specs.Ways.{last}
 use Rattle.selection.specs.Lists.{tab}
 use Rattle.selection.proofs.Lists.{length-tab}
 use Rattle.entering.specs.Climbing.{Fitting, leaves, Blank, Climbed}
-use Rattle.entering.specs.Entering.{enteringCheck, entered, stateByte}
+use Rattle.entering.specs.Entering.{enteringCheck, entered}
 use Rattle.entering.proofs.Climbing.{root-is}
 
 -- an accepted read has steps, and the parents of an accepted tree fall
@@ -80,10 +80,10 @@ states-all f old o e =
     e ∙ rw none (append-nil (tab f stepLimit))
 
 module _ {got check : Checked} (e : got ≡ check) (r x : List ℕ) {s : List ℕ} where
-  pub states-on : got ≡ Fine → s ≡ tab (entered r x) stepLimit → s ≡ tab (stateByte check r x) stepLimit
-  unfolding stateByte
+  pub states-on : got ≡ Fine → s ≡ tab (entered r x) stepLimit → s ≡ tab (whereFine check (entered r x) (λ _. 0)) stepLimit
+  unfolding whereFine
   states-on told w = rw (← e, told) w
 
-  pub states-off : {why : Refusal} → got ≡ Refused why → s ≡ tab (λ i. 0) stepLimit → s ≡ tab (stateByte check r x) stepLimit
-  unfolding stateByte
+  pub states-off : {why : Refusal} → got ≡ Refused why → s ≡ tab (λ i. 0) stepLimit → s ≡ tab (whereFine check (entered r x) (λ _. 0)) stepLimit
+  unfolding whereFine
   states-off told w = rw (← e, told) w

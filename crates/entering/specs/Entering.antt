@@ -5,7 +5,6 @@ use mathlib.Core.List.{List}
 use lib.Dec.{ltb}
 use Rattle.tables.specs.Limits.{stepLimit, treeLimit}
 use Rattle.tables.specs.declared.refusal.Checked.{Checked}
-use Rattle.tables.specs.declared.refusal.Checked.the-variants.{Fine, Refused}
 use Rattle.tables.specs.Checks.{_then_, patternCheck, treeCheck}
 use Rattle.selection.specs.Ways.{last}
 use Rattle.conflict.specs.Crossing.{enters}
@@ -17,8 +16,3 @@ enteringCheck r x = patternCheck r stepLimit 1 then treeCheck x treeLimit 3
 -- 1 where i is a state before r's last from which r enters x, else 0
 unfoldable pub entered : List ℕ → List ℕ → ℕ → ℕ
 entered r x i = cond (ltb i (last r) && enters r x i) 1 0
-
--- 0 for every state where the read or the tree is refused
-unfoldable pub stateByte : Checked → List ℕ → List ℕ → ℕ → ℕ
-stateByte Fine r x i = entered r x i
-stateByte (Refused why) r x i = 0

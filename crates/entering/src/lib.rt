@@ -13,9 +13,10 @@ ghost use mathlib.Core.Path.{_≡_};
 ghost use mathlib.Core.List.{_++_};
 ghost use lib.ListN.{length, drop};
 ghost use Rattle.tables.specs.Limits.{stepLimit};
+ghost use Rattle.tables.specs.Checks.{whereFine};
 ghost use Rattle.selection.specs.Lists.{tab};
 ghost use Rattle.entering.specs.Climbing.{Fitting, Blank, Climbed};
-ghost use Rattle.entering.specs.Entering.{enteringCheck, entered, stateByte};
+ghost use Rattle.entering.specs.Entering.{enteringCheck, entered};
 
 // Pairs of a node of an inserted tree and a state.
 const BYTES: usize = TREE_LIMIT * STEP_LIMIT;
@@ -89,7 +90,7 @@ fn accepted(r: &[u16], x: &[u16]) -> Checked
 // A byte for each state of r, 1 where it is before r's last and r, in this state at the update point, goes on to its last step at some node
 // of x; all 0 where the read or the tree is refused.
 pub fn entering_states(r: &[u16], x: &[u16]) -> [u8; STEP_LIMIT]
-    ensures { λ s. ⌜ s ≡ tab (stateByte (enteringCheck (now (r .entry)) (now (x .entry))) (now (r .entry)) (now (x .entry))) stepLimit ⌝ }
+    ensures { λ s. ⌜ s ≡ tab (whereFine (enteringCheck (now (r .entry)) (now (x .entry))) (entered (now (r .entry)) (now (x .entry))) (λ _. 0)) stepLimit ⌝ }
 {
     match accepted(r, x) {
         Checked::Fine => entered_states(r, x),

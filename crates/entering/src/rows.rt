@@ -50,7 +50,7 @@ fn passing_above(r: &[u16], v: usize, k: usize, rows: &[u8]) -> bool
     if !holds(rows, v, k) {
         return false;
     }
-    stays(r, k)
+    stays(r, false, k)
 }
 
 // Whether, from the row of v, a run is in state k above v's label.

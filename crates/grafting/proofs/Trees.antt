@@ -1,5 +1,5 @@
 -- Copies of a tree that all fit are its grafts.
-use Prim.Native.Nat.{ℕ, zero, suc, _+_, _*_, _/_, min, _<_, _≤_}
+use Prim.Native.Nat.{ℕ, zero, suc, _+_, _*_, _<_, _≤_}
 use mathlib.Core.Path.{_≡_, refl, subst}
 use mathlib.Core.Bool.{Bool, true}
 use mathlib.Core.List.{List, [], _∷_}
@@ -9,7 +9,7 @@ use lib.ListN.{length, getD, List·getD-eq-default}
 use borrow.Author.Tests.{le-leb}
 use Rattle.tables.specs.Limits.{usedLimit, wordLimit}
 use Rattle.tables.specs.Words.{nodes, parent}
-use Rattle.tables.specs.Documents.{Doc}
+use Rattle.tables.specs.Documents.{Doc, capacity}
 use Rattle.tables.proofs.Soundness.{Words}
 use Rattle.selection.specs.Lists.{rising, count}
 use Rattle.selection.specs.Operations.{copiedParent, graft, grafts}
@@ -34,7 +34,7 @@ module _ (x : List ℕ) (words : Words x) (falls : (k : ℕ) → 0 < k → k < n
 
     fits : fitting x d ≡ true
     unfolding fitting
-    fits = le-leb (d .used + nodes x) (min usedLimit (min (length (d .rows) / 2) (length (d .marks)))) (omega (arith, roomy .limit, roomy .rows, roomy .marks))
+    fits = le-leb (d .used + nodes x) (capacity (length (d .rows)) (length (d .marks))) (omega (arith, roomy .limit, roomy .rows, roomy .marks))
 
     one : copied x q d ≡ graft x q d
     one = copied-graft x q d (λ k h. (word k h, words (2 * k + 1))) fits table

@@ -1,13 +1,13 @@
 -- From what the checks and the copies give to the promise of insert.
-use Prim.Native.Nat.{ℕ, _+_, _*_, _/_, min}
+use Prim.Native.Nat.{ℕ, _+_, _*_}
 use mathlib.Core.Path.{_≡_, sym, _∙_, ap}
 use mathlib.Core.List.{List}
 use native.Mathlib.Omega.{arith}
 use lib.Dec.{leb}
 use lib.ListN.{length}
-use Rattle.tables.specs.Limits.{treeLimit, usedLimit}
+use Rattle.tables.specs.Limits.{treeLimit}
 use Rattle.tables.specs.Words.{nodes}
-use Rattle.tables.specs.Documents.{Doc, doc}
+use Rattle.tables.specs.Documents.{Doc, doc, capacity}
 use Rattle.tables.specs.Checks.{test, refuse}
 use Rattle.tables.specs.declared.refusal.Refusal.{Refusal}
 use Rattle.tables.specs.declared.refusal.Checked.{Checked}
@@ -44,7 +44,7 @@ module _ (p x : List ℕ) (d : Doc) {before after : List ℕ} {got : Checked}
         }
 
     pub planned-on : {n : ℕ} {answer : Inserted} → n ≡ count (chosen after) (d .used) →
-        answer ≡ insertAnswer (test (leb (d .used + n * nodes x) (min usedLimit (min (length (d .rows) / 2) (length (d .marks))))) (refuse 11 4 0)) n (d .used + n * nodes x) →
+        answer ≡ insertAnswer (test (leb (d .used + n * nodes x) (capacity (length (d .rows)) (length (d .marks)))) (refuse 11 4 0)) n (d .used + n * nodes x) →
         Planned p x d before after answer
     unfolding fits
     planned-on e q =

@@ -8,12 +8,12 @@ use tables::limits::TREE_LIMIT;
 use tables::limits::USED_LIMIT;
 use tables::refusal::Checked;
 use trees::tree;
-ghost use Prim.Native.Nat.{_+_, _*_, _/_, min, _≤_};
+ghost use Prim.Native.Nat.{_+_, _*_, _/_, _≤_};
 ghost use mathlib.Core.Path.{_≡_};
 ghost use lib.Dec.{leb};
 ghost use lib.ListN.{length};
 ghost use Rattle.tables.specs.Limits.{usedLimit};
-ghost use Rattle.tables.specs.Documents.{doc};
+ghost use Rattle.tables.specs.Documents.{doc, capacity};
 ghost use Rattle.tables.specs.Checks.{test, refuse};
 ghost use Rattle.updating.specs.Updating.{insertAnswer, Insert};
 ghost use Rattle.updating.specs.Asking.{tablesCheck, Asked};
@@ -33,7 +33,7 @@ fn asked(p: &[u16], x: &[u16], rows: &[u16], marks: &[u8], used: usize, row: &mu
 // The answer of an insert of so many copies of so many nodes.
 fn answered(used: usize, copies: usize, nodes: usize, words: usize, marks: usize) -> Inserted
     requires { ⌜ Small used copies nodes ⌝ }
-    ensures { λ r. ⌜ r ≡ insertAnswer (test (leb (used + copies * nodes) (min usedLimit (min (words / 2) marks))) (refuse 11 4 0)) copies (used + copies * nodes) ⌝ }
+    ensures { λ r. ⌜ r ≡ insertAnswer (test (leb (used + copies * nodes) (capacity words marks)) (refuse 11 4 0)) copies (used + copies * nodes) ⌝ }
 {
     let end = used + copies * nodes;
     match fitting(end, words, marks) {

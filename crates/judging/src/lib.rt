@@ -2,8 +2,8 @@
 use outcomes::verdicts::Verdict;
 use tables::limits::STEP_LIMIT;
 use tables::words::word;
-use verdict::node::delete_verdict;
-use verdict::node::insert_verdict;
+use verdict::delete_verdict;
+use verdict::insert_verdict;
 ghost use Prim.Native.Nat.{_+_, _*_, _-_};
 ghost use mathlib.Core.Path.{_≡_};
 ghost use mathlib.Core.Bool.{true};

@@ -1,15 +1,9 @@
 -- The branches of the code, held against those of the definitions.
-use Prim.Native.Nat.{ℕ, suc, _+_, _/_, _<_, _≤_}
+use Prim.Native.Nat.{ℕ, _+_}
 use mathlib.Core.Path.{_≡_}
 use mathlib.Core.Bool.{Bool, true, false, not, or-true}
-use mathlib.Core.List.{List}
-use native.Mathlib.Numerals.{add-one}
-use native.Mathlib.Omega.{arith}
 use lib.Dec.{eqb, leb}
-use lib.ListN.{length}
-use borrow.Author.Tests.{eq-eqb, ne-eqb, lt-ltb, le-ltb, not-true, not-false}
-use Rattle.tables.specs.Words.{axis}
-use Rattle.selection.specs.Ways.{stays}
+use borrow.Author.Tests.{eq-eqb, ne-eqb, not-true, not-false}
 use Rattle.conflict.specs.Meeting.{agree, sooner, least, onward}
 
 module _ (x y : ℕ) where
@@ -24,16 +18,6 @@ module _ (x y : ℕ) where
   pub agree-names : (x ≡ 0 → ⊥) → (y ≡ 0 → ⊥) → eqb x y ≡ agree x y
   unfolding agree
   agree-names e d = rw (ne-eqb x 0 e, ne-eqb y 0 d)
-
-module _ (p : List ℕ) (below : Bool) (i : ℕ) where
-  pub stays-end : length p / 2 ≤ i + 1 → below ≡ stays p below i
-  stays-end h = rw (le-ltb (suc i) (length p / 2) (omega arith))
-
-  pub stays-past : length p / 2 ≤ i → below ≡ stays p below i
-  stays-past h = stays-end (omega arith)
-
-  pub stays-axis : {a : ℕ} → a ≡ axis p (i + 1) → i + 1 < length p / 2 → eqb a 2 ≡ stays p below i
-  stays-axis e h = rw (lt-ltb (suc i) (length p / 2) (omega arith), e, add-one)
 
 module _ (m n : ℕ) where
   pub sooner-none : m ≡ 0 → false ≡ sooner m n

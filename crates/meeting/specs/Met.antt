@@ -6,7 +6,7 @@ use mathlib.Core.List.{List, [], _++_}
 use lib.Dec.{eqb, leb}
 use lib.ListN.{length, drop, getD}
 use Rattle.tables.specs.declared.refusal.Checked.{Checked}
-use Rattle.tables.specs.declared.refusal.Checked.the-variants.{Fine, Refused}
+use Rattle.tables.specs.Checks.{whereFine}
 use Rattle.conflict.specs.Meeting.{shorter, meetingOf}
 use Rattle.conflict.specs.Crossing.{chain}
 use Rattle.admission.specs.Order.{needed}
@@ -22,8 +22,7 @@ nearest r below p under states j (suc i) = shorter (nearest r below p under stat
 
 -- the way of an admitted read and update where j is a state of the update; none where they are refused or it is not
 unfoldable pub met : Checked → Bool → List ℕ → List ℕ
-met Fine inside way = cond inside way []
-met (Refused why) inside way = []
+met check inside way = whereFine check (cond inside way []) []
 
 -- a way is counted; in an output with room for the longest it is written as a chain at the front, and all behind it stays; another stays as it was
 pub record Met (r p way before after : List ℕ) (n : ℕ) : Type 0 where

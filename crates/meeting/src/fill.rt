@@ -2,7 +2,7 @@
 use crate::moves::agreeing;
 use crate::moves::least_of;
 use crate::moves::one_more;
-use crate::moves::staying;
+use stepping::stays;
 use tables::limits::STEP_LIMIT;
 use tables::words::second_word;
 use tables::words::word;
@@ -57,7 +57,7 @@ pub(crate) fn read_lands(
     requires { ⌜ 0 < i ⌝ }
     ensures { λ x. ⌜ x ≡ readLands (now (r .entry)) below (now (p .entry)) under i j ⌝ }
 {
-    one_more(staying(p, under, j), cell(table, i - 1, j))
+    one_more(stays(p, under, j), cell(table, i - 1, j))
 }
 
 // How many where the update lands and the read stays.
@@ -74,7 +74,7 @@ pub(crate) fn update_lands(
     requires { ⌜ 0 < j ⌝ }
     ensures { λ x. ⌜ x ≡ updateLands (now (r .entry)) below (now (p .entry)) under i j ⌝ }
 {
-    one_more(staying(r, below, i), cell(table, i, j - 1))
+    one_more(stays(r, below, i), cell(table, i, j - 1))
 }
 
 // How many labels the shortest way has on which both run, the read in state i and the update in state j.

@@ -1,8 +1,6 @@
 // Moves from one pair of states to the next, and how many labels they take.
-use tables::words::first_word;
 ghost use Prim.Native.Nat.{_<_, pred};
 ghost use mathlib.Core.Path.{_≡_};
-ghost use Rattle.selection.specs.Ways.{stays};
 ghost use Rattle.conflict.specs.Meeting.{agree, sooner, least, onward};
 ghost use Rattle.tables.specs.Limits.{wordLimit};
 
@@ -17,20 +15,6 @@ pub(crate) fn agreeing(x: usize, y: usize) -> bool
         return true;
     }
     x == y
-}
-
-// Whether state i may stay.
-pub(crate) fn staying(p: &[u16], below: bool, i: usize) -> bool
-    ensures { λ r. ⌜ r ≡ stays (now (p .entry)) below i ⌝ }
-{
-    let n = p.len() / 2;
-    if n <= i {
-        return below;
-    }
-    if n <= i + 1 {
-        return below;
-    }
-    first_word(p, i + 1) == 2
 }
 
 // Of two numbers, 0 for none: whether the first is present, and the second is not or is no less.

@@ -32,7 +32,7 @@ fn step(p: &[u16], i: usize, rows: &[u16], used: usize, row: &mut [u8])
     ensures { λ _. ⌜ now (row .exit) ≡ tab (held (now (p .entry)) (now (rows .entry)) (suc i)) used ++ drop used (now (row .entry)) ⌝ }
 {
     let name = second_word(p, i);
-    let staying = stays(p, i);
+    let staying = stays(p, false, i);
     let mut v = 0;
     while v < used {
         let own = byte_at(row, v);

@@ -4,6 +4,7 @@ use mathlib.Core.Path.{_≡_}
 use lib.Dec.{eqb, leb}
 use borrow.Author.Tests.{ne-eqb, le-leb, lt-leb}
 use Rattle.tables.specs.Limits.{usedLimit}
+use Rattle.tables.specs.Documents.{capacity}
 use Rattle.tables.specs.Checks.{test, refuse}
 use Rattle.tables.specs.declared.refusal.Checked.{Checked}
 use Rattle.tables.specs.declared.refusal.Checked.the-variants.{Fine}
@@ -26,11 +27,11 @@ ticked-most b e = rw e (bit-most (eqb b 1))
 
 -- the least of 4,096, half the table's words and the marks, found in two steps
 module _ (end words marks : ℕ) {half least : ℕ} (e : half ≡ min (words / 2) marks) (f : least ≡ min usedLimit half) where
-  least-is : least ≡ min usedLimit (min (words / 2) marks)
+  least-is : least ≡ capacity words marks
   least-is = rw (f, e)
 
-  pub room-none : {answer : Checked} → least < end → answer ≡ refuse 11 4 0 → answer ≡ test (leb end (min usedLimit (min (words / 2) marks))) (refuse 11 4 0)
+  pub room-none : {answer : Checked} → least < end → answer ≡ refuse 11 4 0 → answer ≡ test (leb end (capacity words marks)) (refuse 11 4 0)
   room-none h a = rw (← least-is, lt-leb end least h) a
 
-  pub room-enough : end ≤ least → Fine ≡ test (leb end (min usedLimit (min (words / 2) marks))) (refuse 11 4 0)
+  pub room-enough : end ≤ least → Fine ≡ test (leb end (capacity words marks)) (refuse 11 4 0)
   room-enough h = rw (← least-is, le-leb end least h)

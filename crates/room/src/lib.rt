@@ -6,7 +6,7 @@ use tables::words::byte;
 ghost use Prim.Native.Nat.{_/_, min};
 ghost use mathlib.Core.Path.{_≡_};
 ghost use lib.Dec.{leb};
-ghost use Rattle.tables.specs.Limits.{usedLimit};
+ghost use Rattle.tables.specs.Documents.{capacity};
 ghost use Rattle.tables.specs.Checks.{test, refuse};
 ghost use Rattle.selection.specs.Lists.{count};
 ghost use Rattle.updating.specs.Asking.{chosen};
@@ -47,7 +47,7 @@ fn lesser(a: usize, b: usize) -> usize
 
 // 11 where so many nodes pass the least of 4,096, half the table's words and the marks.
 pub fn fitting(end: usize, words: usize, marks: usize) -> Checked
-    ensures { λ r. ⌜ r ≡ test (leb end (min usedLimit (min (words / 2) marks))) (refuse 11 4 0) ⌝ }
+    ensures { λ r. ⌜ r ≡ test (leb end (capacity words marks)) (refuse 11 4 0) ⌝ }
 {
     let least = lesser(USED_LIMIT, lesser(words / 2, marks));
     if least < end {

@@ -1,5 +1,5 @@
 -- An insert keeps every node as it was, puts one copy of the tree under each update point, in rising number, and leaves a sound document sound.
-use Prim.Native.Nat.{ℕ, zero, suc, _+_, _*_, _-_, _/_, min, _<_, _≤_}
+use Prim.Native.Nat.{ℕ, zero, suc, _+_, _*_, _-_, _<_, _≤_}
 use mathlib.Core.Path.{_≡_, refl, _∙_}
 use mathlib.Core.Bool.{Bool, true, false, cond}
 use mathlib.Core.List.{List, [], _∷_}
@@ -10,7 +10,7 @@ use borrow.Author.Tests.{leb-true, le-leb}
 use lib.ListN.{length, getD}
 use Rattle.tables.specs.Limits.{usedLimit}
 use Rattle.tables.specs.Words.{nodes}
-use Rattle.tables.specs.Documents.{Doc, bare, mark, present, Sound}
+use Rattle.tables.specs.Documents.{Doc, bare, mark, present, Sound, capacity}
 use Rattle.selection.specs.Lists.{count}
 use Rattle.selection.specs.Ways.{up, sel, selected}
 use Rattle.selection.specs.Operations.{graft, grafts, points, inserted, copies, fits, stored}
@@ -187,12 +187,12 @@ pub record Room (p x : List ℕ) (d : Doc) : Type 0 where
 pub fits-room : (p x : List ℕ) (d : Doc) → fits p x d ≡ true → Room p x d
 unfolding fits
 fits-room p x d e =
-    omega (arith, leb-true (d .used + copies p d * nodes x) (min usedLimit (min (length (d .rows) / 2) (length (d .marks)))) e)
+    omega (arith, leb-true (d .used + copies p d * nodes x) (capacity (length (d .rows)) (length (d .marks))) e)
 
 pub room-fits : (p x : List ℕ) (d : Doc) → Room p x d → fits p x d ≡ true
 unfolding fits
 room-fits p x d room =
-    le-leb (d .used + copies p d * nodes x) (min usedLimit (min (length (d .rows) / 2) (length (d .marks)))) (omega arith)
+    le-leb (d .used + copies p d * nodes x) (capacity (length (d .rows)) (length (d .marks))) (omega arith)
 
 -- what holds of the insert that has room, and of the document as it was, holds after it
 pub stored-cases : (P : Doc → Type 0) (p x : List ℕ) (d : Doc) → (Room p x d → P (inserted p x d)) → P d → P (stored p x d)

@@ -1,12 +1,11 @@
 -- Read, delete and insert on the tables of a document, as functions of lists.
-use Prim.Native.Nat.{ℕ, zero, suc, _+_, _*_, _/_, min}
+use Prim.Native.Nat.{ℕ, zero, suc, _+_, _*_}
 use mathlib.Core.Bool.{Bool, false, _&&_, _||_, cond}
 use mathlib.Core.List.{List, [], _∷_, _++_}
 use lib.Dec.{eqb, leb}
 use lib.ListN.{length, drop, replicate}
-use Rattle.tables.specs.Limits.{usedLimit}
 use Rattle.tables.specs.Words.{nodes, parent, tag}
-use Rattle.tables.specs.Documents.{Doc, doc, mark, present}
+use Rattle.tables.specs.Documents.{Doc, doc, mark, present, capacity}
 use Rattle.selection.specs.Lists.{tab, front, rising, count}
 use Rattle.selection.specs.Ways.{up, sel, selected}
 
@@ -66,7 +65,7 @@ copies p d = length (points p d)
 -- there is room: used + copies × nodes is at most the least of 4,096, half the table's words and the marks
 unfoldable pub fits : List ℕ → List ℕ → Doc → Bool
 fits p x d =
-    leb (d .used + copies p d * nodes x) (min usedLimit (min (length (d .rows) / 2) (length (d .marks))))
+    leb (d .used + copies p d * nodes x) (capacity (length (d .rows)) (length (d .marks)))
 
 -- an insert into a document: nothing changes where there is no room
 unfoldable pub stored : List ℕ → List ℕ → Doc → Doc

@@ -18,15 +18,15 @@ module _ (name l : ℕ) where
   pub agrees-name : (name ≡ 0 → ⊥) → eqb name l ≡ agrees name l
   agrees-name h = rw (ne-eqb name 0 h)
 
-module _ (p : List ℕ) (i : ℕ) where
-  pub stays-out : steps p ≤ i → false ≡ stays p false i
-  stays-out h = rw (le-ltb (suc i) (steps p) (omega arith))
-
-  pub stays-end : steps p ≤ i + 1 → false ≡ stays p false i
+module _ (p : List ℕ) (below : Bool) (i : ℕ) where
+  pub stays-end : steps p ≤ i + 1 → below ≡ stays p below i
   stays-end h = rw (le-ltb (suc i) (steps p) (omega arith))
 
-  pub stays-axis : {a : ℕ} → i + 1 < steps p → a ≡ axis p (i + 1) → eqb a 2 ≡ stays p false i
-  stays-axis h e = rw (lt-ltb (suc i) (steps p) (omega arith), e, add-one)
+  pub stays-out : steps p ≤ i → below ≡ stays p below i
+  stays-out h = stays-end (omega arith)
+
+  pub stays-axis : {a : ℕ} → a ≡ axis p (i + 1) → i + 1 < steps p → eqb a 2 ≡ stays p below i
+  stays-axis e h = rw (lt-ltb (suc i) (steps p) (omega arith), e, add-one)
 
 -- a flag that decides the first of two tests
 module _ (x : Bool) {flag : Bool} where

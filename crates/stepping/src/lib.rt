@@ -15,16 +15,16 @@ fn agrees(name: usize, label: usize) -> bool
     name == label
 }
 
-// Whether the next axis is descendant, so that step i, once landed, also stays for every node below.
-pub fn stays(p: &[u16], i: usize) -> bool
-    ensures { λ r. ⌜ r ≡ stays (now (p .entry)) false i ⌝ }
+// Whether step i, once landed, also stays for every node below: where the next axis is descendant; for the last step, as the caller says.
+pub fn stays(p: &[u16], below: bool, i: usize) -> bool
+    ensures { λ r. ⌜ r ≡ stays (now (p .entry)) below i ⌝ }
 {
     let n = p.len() / 2;
     if n <= i {
-        return false;
+        return below;
     }
     if n <= i + 1 {
-        return false;
+        return below;
     }
     first_word(p, i + 1) == 2
 }

@@ -25,6 +25,11 @@ abbrev pub test : Bool → Checked → Checked
 test true c = Fine
 test false c = c
 
+-- this where a check is fine, else that
+unfoldable pub whereFine : {A : Type 0} → Checked → A → A → A
+whereFine Fine this that = this
+whereFine (Refused r) this that = that
+
 -- the first refusal of a check made from v on, at k numbers
 unfoldable pub each : (ℕ → Checked) → ℕ → ℕ → Checked
 each check v zero = Fine

@@ -1,11 +1,11 @@
 -- Documents: a tree table, a row of marks and a used count. A bare tree is a document without marks, all of it used.
-use Prim.Native.Nat.{ℕ, _<_, _≤_}
+use Prim.Native.Nat.{ℕ, _/_, min, _<_, _≤_}
 use mathlib.Core.Path.{_≡_}
 use mathlib.Core.Bool.{Bool, true, _&&_}
 use mathlib.Core.List.{List, []}
 use lib.Dec.{eqb, ltb}
 use lib.ListN.{getD}
-use Rattle.tables.specs.Limits.{wordLimit}
+use Rattle.tables.specs.Limits.{wordLimit, usedLimit}
 use Rattle.tables.specs.Words.{nodes, parent, tag}
 
 pub record Doc : Type 0 where
@@ -18,6 +18,10 @@ doc t m n = record { rows = t; marks = m; used = n }
 
 abbrev pub bare : List ℕ → Doc
 bare t = doc t [] (nodes t)
+
+-- the most nodes that a document of so many words and marks has room for: the least of 4,096, half the words and the marks
+abbrev pub capacity : ℕ → ℕ → ℕ
+capacity words marks = min usedLimit (min (words / 2) marks)
 
 -- mark 0 is present, 1 is removed; where no mark stands, the node is present
 abbrev pub mark : Doc → ℕ → ℕ

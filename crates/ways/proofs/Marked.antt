@@ -11,7 +11,7 @@ use borrow.Author.Tests.{ne-eqb, lt-ltb, le-ltb, le-leb}
 use Rattle.tables.specs.Limits.{stepLimit, treeLimit}
 use Rattle.tables.specs.Words.{steps}
 use Rattle.tables.specs.declared.refusal.Checked.the-variants.{Fine}
-use Rattle.tables.specs.Checks.{patternCheck, treeCheck}
+use Rattle.tables.specs.Checks.{whereFine, patternCheck, treeCheck}
 use Rattle.tables.proofs.Accepted.{then-both}
 use Rattle.selection.specs.Ways.{last}
 use Rattle.selection.specs.Lists.{tab}
@@ -22,7 +22,7 @@ use Rattle.conflict.proofs.Shortest.{length-meetingOf}
 use Rattle.admission.specs.Admitted.{Bounded}
 use Rattle.admission.specs.Order.{needed, patternsCheck, deleteCheck, insertCheck}
 use Rattle.admission.proofs.Accepting.{read-fine, patterns-bounded, delete-patterns, delete-bounded, delete-deep, delete-room, insert-patterns, insert-bounded, insert-tree, insert-deep, insert-room}
-use Rattle.entering.specs.Entering.{enteringCheck, entered, stateByte}
+use Rattle.entering.specs.Entering.{enteringCheck, entered}
 use Rattle.meeting.specs.Met.{markedWay, nearest, met, Met}
 use Rattle.ways.specs.Marked.{Only}
 use Rattle.ways.specs.Ways.{touches, Written}
@@ -92,7 +92,7 @@ module _ (r : List ℕ) (below : Bool) (p : List ℕ) (under : Bool) (states : L
   module _ (fine : patternsCheck r p ≡ Fine) (inside : j < steps p) {n : ℕ} {before after : List ℕ}
       (m : Met r p (met (patternsCheck r p) (ltb j (steps p)) (nearest r below p under states j (steps r))) before after n) where
     met-all : Met r p (nearest r below p under states j (steps r)) before after n
-    unfolding met
+    unfolding met whereFine
     met-all = rw (fine, lt-ltb j (steps p) inside) at m
 
     met-written : needed r p ≤ length before → Written (nearest r below p under states j (steps r)) before after n
@@ -113,10 +113,10 @@ module _ (r p : List ℕ) {i j n : ℕ} (states before after : List ℕ) (fine :
       rw way at (met-written r false p true states j patterns (last-less (steps p) j (bounded .updates-some) e) m (delete-room r p (length before) fine))
 
 -- an insert's way: the marked states are those from which the read enters the tree
-module _ (r p x states : List ℕ) (fine : enteringCheck r x ≡ Fine) (w : states ≡ tab (stateByte (enteringCheck r x) r x) stepLimit) (some : 0 < steps r) (few : steps r ≤ stepLimit) where
+module _ (r p x states : List ℕ) (fine : enteringCheck r x ≡ Fine) (w : states ≡ tab (whereFine (enteringCheck r x) (entered r x) (λ _. 0)) stepLimit) (some : 0 < steps r) (few : steps r ≤ stepLimit) where
   byte-is : (i : ℕ) → i < stepLimit → getD states i 0 ≡ cond (ltb i (last r) && enters r x i) 1 0
-  unfolding stateByte entered
-  byte-is i h = rw (w, getD-tab (stateByte (enteringCheck r x) r x) stepLimit i h, fine)
+  unfolding whereFine entered
+  byte-is i h = rw (w, getD-tab (whereFine (enteringCheck r x) (entered r x) (λ _. 0)) stepLimit i h, fine)
 
   marked-is : (b : Bool) → eqb (cond b 1 0) 1 ≡ b
   marked-is true = refl
@@ -136,7 +136,7 @@ module _ (r p x states : List ℕ) (fine : enteringCheck r x ≡ Fine) (w : stat
       (shorter-none (entering r p x (last r)))
 
 module _ (r p x : List ℕ) {j n : ℕ} (states before after : List ℕ) (fine : insertCheck r p x (length before) ≡ Fine) (e : j ≡ steps p - 1)
-    (w : states ≡ tab (stateByte (enteringCheck r x) r x) stepLimit)
+    (w : states ≡ tab (whereFine (enteringCheck r x) (entered r x) (λ _. 0)) stepLimit)
     (m : Met r p (met (patternsCheck r p) (ltb j (steps p)) (nearest r false p false states j (steps r))) before after n) where
   pub insert-written : Written (insertWay r p x) before after n
   unfolding enteringCheck

@@ -8,13 +8,16 @@ use tables::limits::STEP_LIMIT;
 use tables::refusal::Checked;
 ghost use Prim.Native.Nat.{_<_};
 ghost use mathlib.Core.Path.{_≡_};
+ghost use mathlib.Core.Bool.{false};
+ghost use mathlib.Core.List.{[]};
 ghost use lib.ListN.{length};
 ghost use Rattle.tables.specs.Limits.{stepLimit};
+ghost use Rattle.tables.specs.Checks.{whereFine};
 ghost use Rattle.tables.specs.declared.refusal.Checked.the-variants.{Fine};
 ghost use Rattle.conflict.specs.Crossing.{deleteWay, insertWay};
 ghost use Rattle.admission.specs.Order.{patternsCheck, deleteCheck, insertCheck};
 ghost use Rattle.ways.specs.Marked.{Only};
-ghost use Rattle.ways.specs.Ways.{allowed, allowedTest, touches, Written};
+ghost use Rattle.ways.specs.Ways.{touches, Written};
 
 // A byte for every state, with a 1 at state i.
 fn only(i: usize) -> [u8; STEP_LIMIT]
@@ -64,7 +67,7 @@ fn touch_found(r: &[u16], p: &[u16]) -> bool
 
 // The shortest way that the read selects and the delete hits: how many labels it has, 0 for none, and its chain at the front of the output.
 pub fn delete_way(r: &[u16], p: &[u16], out: &mut [u16]) -> usize
-    ensures { λ n. ⌜ Written (allowed (deleteCheck (now (r .entry)) (now (p .entry)) (length (now (out .entry)))) (deleteWay (now (r .entry)) (now (p .entry)))) (now (out .entry)) (now (out .exit)) n ⌝ }
+    ensures { λ n. ⌜ Written (whereFine (deleteCheck (now (r .entry)) (now (p .entry)) (length (now (out .entry)))) (deleteWay (now (r .entry)) (now (p .entry))) []) (now (out .entry)) (now (out .exit)) n ⌝ }
 {
     match delete_check(r, p, out.len()) {
         Checked::Fine => shortest_delete(r, p, out),
@@ -74,7 +77,7 @@ pub fn delete_way(r: &[u16], p: &[u16], out: &mut [u16]) -> usize
 
 // The same of a read and an insert: the way to an update point from which the read enters the inserted tree.
 pub fn insert_way(r: &[u16], p: &[u16], x: &[u16], out: &mut [u16]) -> usize
-    ensures { λ n. ⌜ Written (allowed (insertCheck (now (r .entry)) (now (p .entry)) (now (x .entry)) (length (now (out .entry)))) (insertWay (now (r .entry)) (now (p .entry)) (now (x .entry)))) (now (out .entry)) (now (out .exit)) n ⌝ }
+    ensures { λ n. ⌜ Written (whereFine (insertCheck (now (r .entry)) (now (p .entry)) (now (x .entry)) (length (now (out .entry)))) (insertWay (now (r .entry)) (now (p .entry)) (now (x .entry))) []) (now (out .entry)) (now (out .exit)) n ⌝ }
 {
     match insert_check(r, p, x, out.len()) {
         Checked::Fine => shortest_insert(r, p, x, out),
@@ -84,7 +87,7 @@ pub fn insert_way(r: &[u16], p: &[u16], x: &[u16], out: &mut [u16]) -> usize
 
 // Whether some way has an update point of the update below a node that the read selects.
 pub fn touching(r: &[u16], p: &[u16]) -> bool
-    ensures { λ b. ⌜ b ≡ allowedTest (patternsCheck (now (r .entry)) (now (p .entry))) (touches (now (r .entry)) (now (p .entry))) ⌝ }
+    ensures { λ b. ⌜ b ≡ whereFine (patternsCheck (now (r .entry)) (now (p .entry))) (touches (now (r .entry)) (now (p .entry))) false ⌝ }
 {
     match patterns_check(r, p) {
         Checked::Fine => touch_found(r, p),

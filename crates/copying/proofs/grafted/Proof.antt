@@ -1,15 +1,15 @@
 -- The copier's words and the marks of the copy, in the place of the free ones.
-use Prim.Native.Nat.{_+_, _/_, min, _≤_}
+use Prim.Native.Nat.{_+_, _≤_}
 use native.Mathlib.Omega.{arith}
 use lib.ListN.{length}
 use borrow.Author.Needs.{needs}
-use Rattle.tables.specs.Limits.{usedLimit}
+use Rattle.tables.specs.Documents.{capacity}
 use Rattle.tables.specs.Words.{nodes}
 use Rattle.copying.proofs.Grafting.{graft-none, room, free-copyable, graft-back}
 use Rattle.copying.proofs.grafted.Statement.{statement}
 use Rattle.copying.proofs.grafted.Tie as tie
 
-there : (c : tie.Else1) → c .before .before .before .before .before .args .at + nodes (c .before .before .before .before .before .args .x .now) ≤ min usedLimit (min (length (c .before .before .before .before .before .args .rows .now) / 2) (length (c .before .before .before .before .before .args .marks .now)))
+there : (c : tie.Else1) → c .before .before .before .before .before .args .at + nodes (c .before .before .before .before .before .args .x .now) ≤ capacity (length (c .before .before .before .before .before .args .rows .now)) (length (c .before .before .before .before .before .args .marks .now))
 there c = room (c .before .before .before .before .before .args .x .now) (c .before .before .before .before .before .args .q) (c .before .before .before .before .before .args .at) (c .before .before .before .before .before .args .rows .now) (c .before .before .before .before .before .args .marks .now) (c .before .has-room .ensures) (c .if1 .left)
 
 pub grafted-spec : {M : Type 1} → statement M

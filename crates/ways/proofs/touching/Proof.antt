@@ -1,6 +1,6 @@
 -- The check, and where it is fine the test.
-use mathlib.Core.Path.{sym, _∙_}
-use Rattle.ways.proofs.Allowed.{test-on, test-off}
+use mathlib.Core.Path.{refl, sym, _∙_}
+use Rattle.tables.proofs.Branches.{fine-on, fine-off}
 use borrow.Author.Needs.{needs}
 use Rattle.ways.proofs.touching.Statement.{statement}
 use Rattle.ways.proofs.touching.Tie as tie
@@ -13,5 +13,5 @@ touching-spec =
     (λ c. search needs)
     (λ c κs. sym (c .before .before .patterns-check .ensures) ∙ c .enum-told .given .1)
     (λ c. search needs)
-    (λ c. test-on (c .before .before .before .patterns-check .ensures) _ (c .before .enum-told .given .1) (c .touch-found .ensures))
-    (λ c. test-off (c .before .before .patterns-check .ensures) _ (c .enum-told2 .given .1)))
+    (λ c. fine-on (c .before .before .before .patterns-check .ensures) _ _ (c .before .enum-told .given .1) (c .touch-found .ensures))
+    (λ c. fine-off (c .before .before .patterns-check .ensures) _ _ (c .enum-told2 .given .1) refl))

@@ -1,8 +1,8 @@
 -- A frame, or its refusal, is given as it was read.
 use borrow.Author.Needs.{needs}
-use Rattle.walker.proofs.Branches.{framed-refused, framed-found}
-use Rattle.walker.proofs.framed.Statement.{statement}
-use Rattle.walker.proofs.framed.Tie as tie
+use Rattle.walking.proofs.Branches.{framed-refused, framed-found}
+use Rattle.walking.proofs.framed.Statement.{statement}
+use Rattle.walking.proofs.framed.Tie as tie
 
 pub framed-spec : {M : Type 1} → statement M
 framed-spec =

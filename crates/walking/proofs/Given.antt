@@ -14,7 +14,7 @@ use Rattle.frames.specs.Frames.{frameCheck, endOf, frameOf, answered, frameAt}
 use Rattle.outcomes.specs.declared.frames.Frame.{Frame}
 use Rattle.frames.proofs.Ending.{end-behind}
 use Rattle.frames.proofs.Accepted.{frame-below, end-room}
-use Rattle.walker.specs.Walker.{answerOf, stepAt}
+use Rattle.walking.specs.Walking.{answerOf, stepAt}
 use Rattle.outcomes.specs.declared.frames.Stepped.{Stepped}
 use Rattle.outcomes.specs.declared.frames.Stepped.the-variants as answer
 

@@ -5,8 +5,8 @@ use Rattle.verdict.proofs.Judging.{judged-on, judged-off}
 use Rattle.verdict.proofs.Promise.{insert-promise}
 use native.Mathlib.Omega.{arith}
 use borrow.Author.Needs.{needs}
-use Rattle.verdict.proofs.node.insert_verdict.Statement.{statement}
-use Rattle.verdict.proofs.node.insert_verdict.Tie as tie
+use Rattle.verdict.proofs.insert_verdict.Statement.{statement}
+use Rattle.verdict.proofs.insert_verdict.Tie as tie
 
 pub insert-verdict-spec : {M : Type 1} → statement M
 insert-verdict-spec =

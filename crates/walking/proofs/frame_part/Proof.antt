@@ -1,10 +1,10 @@
 -- The part from the place to the frame's end lies within the batch.
 use native.Mathlib.Omega.{arith}
 use borrow.Author.Needs.{needs}
-use Rattle.walker.proofs.Given.{frame-words, frame-from, frame-room}
-use Rattle.walker.proofs.Branches.{part-refused, part-frame, part-over}
-use Rattle.walker.proofs.frame_part.Statement.{statement}
-use Rattle.walker.proofs.frame_part.Tie as tie
+use Rattle.walking.proofs.Given.{frame-words, frame-from, frame-room}
+use Rattle.walking.proofs.Branches.{part-refused, part-frame, part-over}
+use Rattle.walking.proofs.frame_part.Statement.{statement}
+use Rattle.walking.proofs.frame_part.Tie as tie
 
 pub frame-part-spec : {M : Type 1} → statement M
 frame-part-spec =

@@ -9,10 +9,10 @@ use Rattle.tables.specs.declared.refusal.Refusal.{Refusal}
 use Rattle.parts.specs.Parts.{part}
 use Rattle.frames.specs.Frames.{endOf, frameOf}
 use Rattle.outcomes.specs.declared.frames.Frame.{Frame}
-use Rattle.walker.specs.Walker.{stepAt, placeAfter, numberAfter, partAt}
+use Rattle.walking.specs.Walking.{stepAt, placeAfter, numberAfter, partAt}
 use Rattle.outcomes.specs.declared.frames.Stepped.the-variants as answer
-use Rattle.walker.proofs.Given.{given}
-use Rattle.walker.proofs.Branches.{place-refused, place-frame, place-over, number-refused, number-frame, number-over}
+use Rattle.walking.proofs.Given.{given}
+use Rattle.walking.proofs.Branches.{place-refused, place-frame, place-over, number-refused, number-frame, number-over}
 
 module _ (b : List ℕ) (n at : ℕ) where
   -- over 16,384 words 10 at every call

@@ -5,8 +5,8 @@ use Rattle.verdict.proofs.Judging.{judged-on, judged-off}
 use Rattle.verdict.proofs.Promise.{delete-promise}
 use native.Mathlib.Omega.{arith}
 use borrow.Author.Needs.{needs}
-use Rattle.verdict.proofs.node.delete_verdict.Statement.{statement}
-use Rattle.verdict.proofs.node.delete_verdict.Tie as tie
+use Rattle.verdict.proofs.delete_verdict.Statement.{statement}
+use Rattle.verdict.proofs.delete_verdict.Tie as tie
 
 pub delete-verdict-spec : {M : Type 1} → statement M
 delete-verdict-spec =

@@ -1,10 +1,10 @@
 -- Each answer's number: a frame that is given has one below 128.
 use native.Mathlib.Omega.{arith}
 use borrow.Author.Needs.{needs}
-use Rattle.walker.proofs.Given.{frame-number}
-use Rattle.walker.proofs.Branches.{number-refused, number-frame, number-over}
-use Rattle.walker.proofs.number_after.Statement.{statement}
-use Rattle.walker.proofs.number_after.Tie as tie
+use Rattle.walking.proofs.Given.{frame-number}
+use Rattle.walking.proofs.Branches.{number-refused, number-frame, number-over}
+use Rattle.walking.proofs.number_after.Statement.{statement}
+use Rattle.walking.proofs.number_after.Tie as tie
 
 pub number-after-spec : {M : Type 1} → statement M
 number-after-spec =

@@ -12,7 +12,7 @@ use Rattle.frames.specs.Frames.{frameAt}
 use Rattle.outcomes.specs.declared.frames.Frame.{Frame}
 use Rattle.outcomes.specs.declared.frames.Framed.{Framed}
 use Rattle.outcomes.specs.declared.frames.Framed.the-variants as framed
-use Rattle.walker.specs.Walker.{answerOf, stepAt, placeAfter, numberAfter, partAt}
+use Rattle.walking.specs.Walking.{answerOf, stepAt, placeAfter, numberAfter, partAt}
 use Rattle.outcomes.specs.declared.frames.Stepped.{Stepped}
 use Rattle.outcomes.specs.declared.frames.Stepped.the-variants as answer
 

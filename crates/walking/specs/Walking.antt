@@ -1,4 +1,4 @@
--- What the frame walker gives at a place of the batch, and where it stands next.
+-- What a walk over the frames gives at a place of the batch, and where it stands next.
 use Prim.Native.Nat.{ℕ, _+_, _-_}
 use mathlib.Core.Bool.{cond}
 use mathlib.Core.List.{List}

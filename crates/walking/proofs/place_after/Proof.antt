@@ -1,8 +1,8 @@
 -- Each answer's place.
 use borrow.Author.Needs.{needs}
-use Rattle.walker.proofs.Branches.{place-refused, place-frame, place-over}
-use Rattle.walker.proofs.place_after.Statement.{statement}
-use Rattle.walker.proofs.place_after.Tie as tie
+use Rattle.walking.proofs.Branches.{place-refused, place-frame, place-over}
+use Rattle.walking.proofs.place_after.Statement.{statement}
+use Rattle.walking.proofs.place_after.Tie as tie
 
 pub place-after-spec : {M : Type 1} → statement M
 place-after-spec =

@@ -1,0 +1,2 @@
+-- What a reader must believe of a walk over the frames of a batch.
+pub mod Walking
