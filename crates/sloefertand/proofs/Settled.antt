@@ -26,7 +26,8 @@ use Rattle.spelling.proofs.Promise.{write-one}
 use Rattle.printer.specs.Printer.{PrintedAs}
 use Rattle.printer.proofs.Settled.{printed-one}
 use Rattle.answers.specs.Answers.{Told}
-use Rattle.numbers.specs.Numbers.{ofChecked, ofDeleted, ofInserted, ofVerdict, ofDeeply, ofPlanned, ofParsed, ofSpelled, ofPrinted}
+use Rattle.numbers.specs.Numbers.{ofChecked, ofDeleted, ofInserted, ofVerdict, ofDeeply}
+use Rattle.batch_numbers.specs.Numbers.{ofPlanned, ofParsed, ofSpelled, ofPrinted}
 use Rattle.answers.specs.declared.answer.Answer.{Answer}
 
 -- where the promises settle the answer and something more by its numbers, so do the numbers

@@ -1,4 +1,4 @@
--- The walker stays at a bad frame and at the end, and stands behind each frame that it gives.
+-- A walk stays at a bad frame and at the end, and stands behind each frame that it gives.
 use Prim.Native.Nat.{ℕ, _+_, _-_, _<_}
 use mathlib.Core.Path.{_≡_, refl, sym, _∙_, ap}
 use mathlib.Core.List.{List}

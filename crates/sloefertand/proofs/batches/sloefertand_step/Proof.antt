@@ -1,6 +1,6 @@
 -- The numbers of the walker's step.
 use borrow.Author.Needs.{needs}
-use Rattle.numbers.specs.Numbers.{ofStepped}
+use Rattle.batch_numbers.specs.Numbers.{ofStepped}
 use Rattle.answers.proofs.Shown.{of-promise}
 use Rattle.sloefertand.proofs.batches.sloefertand_step.Statement.{statement}
 use Rattle.sloefertand.proofs.batches.sloefertand_step.Tie as tie

@@ -1,9 +1,9 @@
 -- The digits, or the refusal.
 use borrow.Author.Needs.{needs}
-use Rattle.numbers.specs.Numbers.{ofSpelled}
+use Rattle.batch_numbers.specs.Numbers.{ofSpelled}
 use Rattle.answers.proofs.Shown.{of-case}
-use Rattle.numbers.proofs.spelled.Statement.{statement}
-use Rattle.numbers.proofs.spelled.Tie as tie
+use Rattle.batch_numbers.proofs.spelled.Statement.{statement}
+use Rattle.batch_numbers.proofs.spelled.Tie as tie
 
 pub spelled-spec : {M : Type 1} → statement M
 spelled-spec =

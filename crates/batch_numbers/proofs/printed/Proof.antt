@@ -1,9 +1,9 @@
 -- The bytes, or the refusal.
 use borrow.Author.Needs.{needs}
-use Rattle.numbers.specs.Numbers.{ofPrinted}
+use Rattle.batch_numbers.specs.Numbers.{ofPrinted}
 use Rattle.answers.proofs.Shown.{of-case}
-use Rattle.numbers.proofs.printed.Statement.{statement}
-use Rattle.numbers.proofs.printed.Tie as tie
+use Rattle.batch_numbers.proofs.printed.Statement.{statement}
+use Rattle.batch_numbers.proofs.printed.Tie as tie
 
 pub printed-spec : {M : Type 1} → statement M
 printed-spec =

@@ -1,9 +1,9 @@
 -- The words, or the refusal.
 use borrow.Author.Needs.{needs}
-use Rattle.numbers.specs.Numbers.{ofParsed}
+use Rattle.batch_numbers.specs.Numbers.{ofParsed}
 use Rattle.answers.proofs.Shown.{of-case}
-use Rattle.numbers.proofs.parsed.Statement.{statement}
-use Rattle.numbers.proofs.parsed.Tie as tie
+use Rattle.batch_numbers.proofs.parsed.Statement.{statement}
+use Rattle.batch_numbers.proofs.parsed.Tie as tie
 
 pub parsed-spec : {M : Type 1} → statement M
 parsed-spec =

@@ -1,9 +1,9 @@
 -- The frames, or the refusal.
 use borrow.Author.Needs.{needs}
-use Rattle.numbers.specs.Numbers.{ofPlanned}
+use Rattle.batch_numbers.specs.Numbers.{ofPlanned}
 use Rattle.answers.proofs.Shown.{of-case}
-use Rattle.numbers.proofs.planned.Statement.{statement}
-use Rattle.numbers.proofs.planned.Tie as tie
+use Rattle.batch_numbers.proofs.planned.Statement.{statement}
+use Rattle.batch_numbers.proofs.planned.Tie as tie
 
 pub planned-spec : {M : Type 1} → statement M
 planned-spec =

@@ -1,9 +1,9 @@
 -- None left, the frame, or the refusal.
 use borrow.Author.Needs.{needs}
-use Rattle.numbers.specs.Numbers.{ofStepped}
+use Rattle.batch_numbers.specs.Numbers.{ofStepped}
 use Rattle.answers.proofs.Shown.{of-case}
-use Rattle.numbers.proofs.stepped.Statement.{statement}
-use Rattle.numbers.proofs.stepped.Tie as tie
+use Rattle.batch_numbers.proofs.stepped.Statement.{statement}
+use Rattle.batch_numbers.proofs.stepped.Tie as tie
 
 pub stepped-spec : {M : Type 1} → statement M
 stepped-spec =
