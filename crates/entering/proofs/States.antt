@@ -15,6 +15,7 @@ use Rattle.tables.specs.declared.refusal.Checked.the-variants.{Fine, Refused}
 use Rattle.tables.specs.Checks.{whereFine, each, sizeCheck, patternCheck, nodeCheck, treeCheck}
 use Rattle.tables.proofs.Accepted.{then-first, then-second}
 use Rattle.tables.proofs.Soundness.{accepted-pattern, accepted-steps, accepted-nodes, accepted-some, node-falls}
+use Rattle.tables.proofs.Branches.{fine-on, fine-off}
 use Rattle.selection.specs.Ways.{last}
 use Rattle.selection.specs.Lists.{tab}
 use Rattle.selection.proofs.Lists.{length-tab}
@@ -81,9 +82,7 @@ states-all f old o e =
 
 module _ {got check : Checked} (e : got ≡ check) (r x : List ℕ) {s : List ℕ} where
   pub states-on : got ≡ Fine → s ≡ tab (entered r x) stepLimit → s ≡ tab (whereFine check (entered r x) (λ _. 0)) stepLimit
-  unfolding whereFine
-  states-on told w = rw (← e, told) w
+  states-on = fine-on (λ f. s ≡ tab f stepLimit) e (entered r x) (λ _. 0)
 
   pub states-off : {why : Refusal} → got ≡ Refused why → s ≡ tab (λ i. 0) stepLimit → s ≡ tab (whereFine check (entered r x) (λ _. 0)) stepLimit
-  unfolding whereFine
-  states-off told w = rw (← e, told) w
+  states-off = fine-off (λ f. s ≡ tab f stepLimit) e (entered r x) (λ _. 0)

@@ -12,7 +12,7 @@ use Rattle.tables.specs.declared.refusal.Checked.{Checked}
 use Rattle.tables.specs.declared.refusal.Checked.the-variants.{Fine, Refused}
 use Rattle.conflict.specs.Crossing.{chain}
 use Rattle.admission.specs.Order.{needed}
-use Rattle.tables.specs.Checks.{whereFine}
+use Rattle.tables.proofs.Branches.{fine-on, fine-off}
 use Rattle.meeting.specs.Met.{met, Met}
 
 module _ (r p : List ℕ) where
@@ -35,9 +35,9 @@ module _ (r p : List ℕ) where
 
   module _ {got check : Checked} (e : got ≡ check) (inside : Bool) (way : List ℕ) where
     pub met-on : {n : ℕ} {before after : List ℕ} → got ≡ Fine → Met r p (cond inside way []) before after n → Met r p (met check inside way) before after n
-    unfolding met whereFine
-    met-on told w = rw (← e, told) w
+    unfolding met
+    met-on {n} {before} {after} = fine-on (λ found. Met r p found before after n) e (cond inside way []) []
 
     pub met-off : {why : Refusal} (out : List ℕ) → got ≡ Refused why → Met r p (met check inside way) out out 0
-    unfolding met whereFine
-    met-off out told = rw (← e, told) (met-none out)
+    unfolding met
+    met-off out told = fine-off (λ found. Met r p found out out 0) e (cond inside way []) [] told (met-none out)

@@ -16,7 +16,7 @@ pub enum Framed {
     Found(Frame),
 }
 
-// What a call gives: the refusal, the frame, or that none is left.
+// What a step of a walk answers: the refusal, the frame, or that none is left.
 pub enum Stepped {
     Refused(Refusal),
     Frame(Frame),

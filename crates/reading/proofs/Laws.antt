@@ -13,14 +13,15 @@ use Rattle.selection.specs.Rows.{Row}
 use Rattle.selection.specs.Operations.{readRow}
 use Rattle.selection.proofs.Rows.{read-row}
 use Rattle.readable.specs.Readable.{readCheck}
-use Rattle.reading.specs.Reading.{Read, written}
+use Rattle.tables.specs.Checks.{whereFine}
+use Rattle.reading.specs.Reading.{Read}
 use Rattle.reading.proofs.Meeting.{fine-document, fine-pattern, fine-room}
 
 -- two reads of the same tables give one row and one answer
 pub read-one : {p : List ℕ} {table : ℕ} {d : Doc} {before a b : List ℕ} {x y : Checked} → Read p table d before a x → Read p table d before b y → (a ≡ b) × (x ≡ y)
 read-one {p} {d = d} {before} {x = x} {y} r s =
     let same : x ≡ y = r .answered ∙ sym (s .answered) in
-    (r .row ∙ ap (λ (z : Checked). written z (readRow p d before) before) same ∙ sym (s .row), same)
+    (r .row ∙ ap (λ (z : Checked). whereFine z (readRow p d before) before) same ∙ sym (s .row), same)
 
 -- a read that meets no refusal: byte v is 1 exactly if p selects v by embeddings, else 0; later bytes stay
 pub read-selects : {p : List ℕ} {table : ℕ} {d : Doc} {before after : List ℕ} → Read p table d before after Fine → Words (d .rows) → Row (Selects p d) (d .used) before after

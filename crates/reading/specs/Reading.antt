@@ -5,16 +5,11 @@ use mathlib.Core.List.{List}
 use lib.ListN.{length}
 use Rattle.tables.specs.Documents.{Doc}
 use Rattle.tables.specs.declared.refusal.Checked.{Checked}
-use Rattle.tables.specs.declared.refusal.Checked.the-variants.{Fine, Refused}
+use Rattle.tables.specs.Checks.{whereFine}
 use Rattle.selection.specs.Operations.{readRow}
 use Rattle.readable.specs.Readable.{readCheck}
 
--- a refusal changes no lent buffer
-abbrev pub written : Checked → List ℕ → List ℕ → List ℕ
-written Fine new old = new
-written (Refused r) new old = old
-
--- the answer and the row of a read: one byte a used node, 1 if selected, else 0; later bytes stay
+-- the answer and the row of a read: one byte a used node, 1 if selected, else 0; later bytes stay, and a refusal changes nothing
 pub record Read (p : List ℕ) (table : ℕ) (d : Doc) (before after : List ℕ) (answer : Checked) : Type 0 where
   pub answered : answer ≡ readCheck p table d (length before)
-  pub row : after ≡ written answer (readRow p d before) before
+  pub row : after ≡ whereFine answer (readRow p d before) before

@@ -13,12 +13,14 @@ module _ {got first : Checked} (rest : Checked) (e : got ≡ first) where
   pub then-off : {r : Refusal} → got ≡ Refused r → Refused r ≡ (first then rest)
   then-off told = rw (← e, told)
 
--- the same for what is asked only where the check is fine
-module _ {A : Type 0} {got check : Checked} (e : got ≡ check) (this that : A) {answer : A} where
-  pub fine-on : got ≡ Fine → answer ≡ this → answer ≡ whereFine check this that
-  unfolding whereFine
-  fine-on told a = rw (← e, told) a
+-- the same for what holds of this where the check is fine, and of that where it is not
+module _ {A : Type 0} (P : A → Type 0) {got check : Checked} (e : got ≡ check) (this that : A) where
+  pub fine-on : got ≡ Fine → P this → P (whereFine check this that)
+  fine-on told h = rw (← e, told) h
 
-  pub fine-off : {r : Refusal} → got ≡ Refused r → answer ≡ that → answer ≡ whereFine check this that
-  unfolding whereFine
-  fine-off told a = rw (← e, told) a
+  pub fine-off : {r : Refusal} → got ≡ Refused r → P that → P (whereFine check this that)
+  fine-off told h = rw (← e, told) h
+
+-- and back, where it is fine
+pub fine-back : {A : Type 0} (P : A → Type 0) {check : Checked} (this that : A) → check ≡ Fine → P (whereFine check this that) → P this
+fine-back P this that fine h = rw fine at h

@@ -26,7 +26,7 @@ test true c = Fine
 test false c = c
 
 -- this where a check is fine, else that
-unfoldable pub whereFine : {A : Type 0} → Checked → A → A → A
+abbrev pub whereFine : {A : Type 0} → Checked → A → A → A
 whereFine Fine this that = this
 whereFine (Refused r) this that = that
 

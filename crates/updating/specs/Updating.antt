@@ -6,11 +6,10 @@ use lib.Dec.{ltb}
 use Rattle.tables.specs.Limits.{stepLimit, treeLimit}
 use Rattle.tables.specs.Words.{steps, nodes}
 use Rattle.tables.specs.Documents.{Doc}
-use Rattle.tables.specs.Checks.{_then_, test, refuse, documentCheck, patternCheck, treeCheck}
+use Rattle.tables.specs.Checks.{whereFine, _then_, test, refuse, documentCheck, patternCheck, treeCheck}
 use Rattle.tables.specs.declared.refusal.Checked.{Checked}
 use Rattle.tables.specs.declared.refusal.Checked.the-variants.{Fine, Refused}
 use Rattle.selection.specs.Operations.{deleted, removed, inserted, copies, fits}
-use Rattle.reading.specs.Reading.{written}
 use Rattle.outcomes.specs.declared.updates.Deleted.{Deleted}
 use Rattle.outcomes.specs.declared.updates.Deleted.the-variants.{Removed, Refused as NotDeleted}
 use Rattle.outcomes.specs.declared.updates.Inserted.{Inserted}
@@ -39,10 +38,10 @@ insertAnswer (Refused r) n used = NotInserted r
 -- the answer and the marks of a delete; a refusal changes no mark
 pub record Delete (p : List ℕ) (d : Doc) (before after : List ℕ) (answer : Deleted) : Type 0 where
   pub answered : answer ≡ deleteAnswer (deleteCheck p d) (removed p d)
-  pub marks : after ≡ written (deleteCheck p d) (deleted p d .marks) before
+  pub marks : after ≡ whereFine (deleteCheck p d) (deleted p d .marks) before
 
 -- the answer and the tables of an insert; a refusal changes neither
 pub record Insert (p x : List ℕ) (d : Doc) (rows₀ marks₀ rows₁ marks₁ : List ℕ) (answer : Inserted) : Type 0 where
   pub answered : answer ≡ insertAnswer (insertCheck p x d) (copies p d) (d .used + copies p d * nodes x)
-  pub rows : rows₁ ≡ written (insertCheck p x d) (inserted p x d .rows) rows₀
-  pub marks : marks₁ ≡ written (insertCheck p x d) (inserted p x d .marks) marks₀
+  pub rows : rows₁ ≡ whereFine (insertCheck p x d) (inserted p x d .rows) rows₀
+  pub marks : marks₁ ≡ whereFine (insertCheck p x d) (inserted p x d .marks) marks₀

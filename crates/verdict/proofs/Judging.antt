@@ -7,6 +7,7 @@ use borrow.Author.Tests.{eq-eqb, ne-eqb}
 use Rattle.tables.specs.declared.refusal.Refusal.{Refusal}
 use Rattle.tables.specs.declared.refusal.Checked.{Checked}
 use Rattle.tables.specs.declared.refusal.Checked.the-variants.{Fine, Refused}
+use Rattle.tables.specs.Checks.{whereFine}
 use Rattle.outcomes.specs.declared.verdicts.Verdict.{Verdict}
 use Rattle.outcomes.specs.declared.verdicts.Verdict.the-variants.{Clear, Conflict, Refused as NotJudged}
 use Rattle.conflict.specs.Crossing.{chain}
@@ -19,8 +20,7 @@ verdictOf Fine n = foundOf n
 verdictOf (Refused why) n = NotJudged why
 
 unfoldable pub outputOf : Checked → List ℕ → List ℕ → List ℕ
-outputOf Fine way out = chain way ++ drop (2 * length way) out
-outputOf (Refused why) way out = out
+outputOf check way out = whereFine check (chain way ++ drop (2 * length way) out) out
 
 pub record Judged (check : Checked) (way before after : List ℕ) (answer : Verdict) : Type 0 where
   pub says : answer ≡ verdictOf check (length way)

@@ -1,4 +1,4 @@
--- From the check that the code matches on to what is allowed.
+-- What is allowed: nothing is written where a check refuses, and where it is fine the way or the test is as it is.
 use Prim.Native.Nat.{ℕ}
 use mathlib.Core.Path.{_≡_, refl}
 use mathlib.Core.Bool.{Bool, false}
@@ -7,24 +7,21 @@ use Rattle.tables.specs.declared.refusal.Refusal.{Refusal}
 use Rattle.tables.specs.declared.refusal.Checked.{Checked}
 use Rattle.tables.specs.declared.refusal.Checked.the-variants.{Fine, Refused}
 use Rattle.tables.specs.Checks.{whereFine}
+use Rattle.tables.proofs.Branches.{fine-on, fine-off, fine-back}
 use Rattle.conflict.specs.Crossing.{chain}
 use Rattle.ways.specs.Ways.{Written}
 
 module _ {got check : Checked} (e : got ≡ check) where
   pub allowed-on : {n : ℕ} {way before after : List ℕ} → got ≡ Fine → Written way before after n → Written (whereFine check way []) before after n
-  unfolding whereFine
-  allowed-on told w = rw (← e, told) w
+  allowed-on {n} {way} {before} {after} = fine-on (λ w. Written w before after n) e way []
 
   pub allowed-off : {why : Refusal} (way out : List ℕ) → got ≡ Refused why → Written (whereFine check way []) out out 0
-  unfolding whereFine chain
-  allowed-off way out told = rw (← e, told) (record { count = refl; words = refl })
+  unfolding chain
+  allowed-off way out told = fine-off (λ w. Written w out out 0) e way [] told (record { count = refl; words = refl })
 
--- what is allowed where the check is fine
 module _ {check : Checked} (fine : check ≡ Fine) where
   pub granted : {n : ℕ} {way before after : List ℕ} → Written (whereFine check way []) before after n → Written way before after n
-  unfolding whereFine
-  granted w = rw fine at w
+  granted {n} {way} {before} {after} w = fine-back (λ w. Written w before after n) way [] fine w
 
   pub granted-test : {b test : Bool} → b ≡ whereFine check test false → b ≡ test
-  unfolding whereFine
-  granted-test w = rw fine at w
+  granted-test {b} {test} w = fine-back (λ t. b ≡ t) test false fine w

@@ -92,7 +92,7 @@ module _ (r : List ℕ) (below : Bool) (p : List ℕ) (under : Bool) (states : L
   module _ (fine : patternsCheck r p ≡ Fine) (inside : j < steps p) {n : ℕ} {before after : List ℕ}
       (m : Met r p (met (patternsCheck r p) (ltb j (steps p)) (nearest r below p under states j (steps r))) before after n) where
     met-all : Met r p (nearest r below p under states j (steps r)) before after n
-    unfolding met whereFine
+    unfolding met
     met-all = rw (fine, lt-ltb j (steps p) inside) at m
 
     met-written : needed r p ≤ length before → Written (nearest r below p under states j (steps r)) before after n
@@ -115,7 +115,7 @@ module _ (r p : List ℕ) {i j n : ℕ} (states before after : List ℕ) (fine :
 -- an insert's way: the marked states are those from which the read enters the tree
 module _ (r p x states : List ℕ) (fine : enteringCheck r x ≡ Fine) (w : states ≡ tab (whereFine (enteringCheck r x) (entered r x) (λ _. 0)) stepLimit) (some : 0 < steps r) (few : steps r ≤ stepLimit) where
   byte-is : (i : ℕ) → i < stepLimit → getD states i 0 ≡ cond (ltb i (last r) && enters r x i) 1 0
-  unfolding whereFine entered
+  unfolding entered
   byte-is i h = rw (w, getD-tab (whereFine (enteringCheck r x) (entered r x) (λ _. 0)) stepLimit i h, fine)
 
   marked-is : (b : Bool) → eqb (cond b 1 0) 1 ≡ b
