@@ -8,6 +8,7 @@ use borrow.Author.Tests.{lt-ltb}
 use Rattle.tables.specs.Limits.{stepLimit, treeLimit}
 use Rattle.tables.specs.Words.{steps}
 use Rattle.tables.specs.declared.refusal.Checked.the-variants.{Fine}
+use Rattle.tables.proofs.Elsewhere.{pattern-elsewhere, tree-elsewhere}
 use Rattle.conflict.specs.Conflict.{Conflict}
 use Rattle.frames.specs.Frames.{kind}
 use Rattle.admission.specs.Order.{patternsCheck, deepDeleteCheck, deepInsertCheck, deepCheck}
@@ -16,15 +17,14 @@ use Rattle.judging.specs.Judging.{Clash}
 use Rattle.batch.specs.Walking.{Standing, Updating}
 use Rattle.frames.proofs.Accepted.{frame-kind}
 use Rattle.batches.proofs.Accepted.{steps-fine, delete-two, tree-fine}
-use Rattle.batch.proofs.Tables.{pattern-other, tree-other}
 
 module _ (b : List ℕ) {at place : ℕ} (s : Standing b at) (u : Updating b place) where
   patterns : patternsCheck (patternOf b at) (patternOf b place) ≡ Fine
   unfolding patternsCheck
   patterns =
       rw (
-        pattern-other 6 1 (patternOf b at) stepLimit (steps-fine b (s .frame) at (s .fine)),
-        pattern-other 6 2 (patternOf b place) stepLimit (steps-fine b (u .standing .frame) place (u .standing .fine)),
+        pattern-elsewhere stepLimit 6 1 (patternOf b at) (steps-fine b (s .frame) at (s .fine)),
+        pattern-elsewhere stepLimit 6 2 (patternOf b place) (steps-fine b (u .standing .frame) place (u .standing .fine)),
       )
 
   accepted : deepCheck (patternOf b at) (updateOf b place) ≡ Fine
@@ -33,8 +33,8 @@ module _ (b : List ℕ) {at place : ℕ} (s : Standing b at) (u : Updating b pla
     where
       go : (kind b place ≡ 1) ⊎ ((kind b place ≡ 2) ⊎ (kind b place ≡ 3)) → deepCheck (patternOf b at) (updateOf b place) ≡ Fine
       go (inl one) = absurd (u .other one)
-      go (inr (inl two)) = rw (two, patterns) (tree-other 6 3 (treeOf b place) treeLimit (tree-fine b (u .standing .frame) place (u .standing .fine) two))
+      go (inr (inl two)) = rw (two, patterns) (tree-elsewhere treeLimit 6 3 (treeOf b place) (tree-fine b (u .standing .frame) place (u .standing .fine) two))
       go (inr (inr three)) = rw (three, patterns, lt-ltb 1 (steps (patternOf b place)) (delete-two b (u .standing .frame) place (u .standing .fine) three))
 
   pub told : {c : Bool} → (c ≡ true) ↔ Clash (patternOf b at) (updateOf b place) → (c ≡ true) ↔ Conflict (patternOf b at) (updateOf b place)
-  told clash = ((λ e. clash .0 e .conflict), (λ d. clash .1 (record { fine = accepted; conflict = d })))
+  told clash = ((λ e. clash .0 e .conflict accepted), (λ d. clash .1 (record { conflict = λ fine. d })))

@@ -7,17 +7,13 @@ use native.Mathlib.Decide.{decLt}
 use native.Mathlib.Omega.{arith}
 use lib.ListN.{length, getD}
 use lib.Seq.{ext-getD}
-use Rattle.tables.specs.Documents.{Doc, Sound}
 use Rattle.tables.specs.declared.refusal.Checked.the-variants as checked
 use Rattle.tables.proofs.Soundness.{Words}
 use Rattle.conflict.specs.Conflict.{Update}
 use Rattle.order.specs.Model.{Frame, read, update, At, earlier, slot}
-use Rattle.order.specs.Order.{Order, Same}
-use Rattle.order.specs.Running.{running, SameSets}
 use Rattle.order.proofs.Places.{by-kind}
 use Rattle.order.proofs.Slots.{slot-same}
 use Rattle.order.proofs.Deciding.{conflicting, conflicting-decides}
-use Rattle.order.proofs.Demand.{demand-three, demand-three-sets}
 use Rattle.batches.specs.Batches.{batchOf, batchCheck}
 use Rattle.batch.specs.Batch.{SlotIs, WordIs, Written, Plan}
 use Rattle.outcomes.specs.declared.plans.Planned.{Planned}
@@ -53,14 +49,6 @@ module _ (b : List ℕ) (words : Words b) (accepted : batchCheck b ≡ checked.F
   -- the slot of a read, in terms of conflicts, is the slot of demand 3
   pub accepted-slot : {k : ℕ} {r : List ℕ} → At (batchOf b) k (read r) → (w : ℕ) → SlotIs (batchOf b) k r w ↔ (w ≡ slot conflicting (batchOf b) k r)
   accepted-slot at w = slot-exactly conflicting-decides (accepted-fits b words accepted) at w
-
-  -- demand 3: an order that keeps to the slots gives what the batch's own order gives, and the same sets by embeddings
-  module _ {d : Doc} (sound : Sound d) {o : List ℕ} (order : Order conflicting (batchOf b) o) where
-    pub accepted-same : Same running (batchOf b) o d
-    accepted-same = demand-three conflicting-decides (accepted-fits b words accepted) sound order
-
-    pub accepted-sets : SameSets (batchOf b) o d
-    accepted-sets = demand-three-sets conflicting-decides (accepted-fits b words accepted) sound order
 
 -- two accepted batches that agree on a read and on the updates before it give that read the same slot
 pub same-slot : (b c : List ℕ) → Words b → Words c → batchCheck b ≡ checked.Fine → batchCheck c ≡ checked.Fine

@@ -1,6 +1,5 @@
 -- Laws of plans.
 pub mod Checked
-pub mod Tables
 pub mod Judged
 pub mod Numbers
 pub mod Slots

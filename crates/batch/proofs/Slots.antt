@@ -9,7 +9,7 @@ use native.Mathlib.Omega.{arith}
 use lib.ListN.{length}
 use Rattle.conflict.specs.Conflict.{Update, Conflict}
 use Rattle.order.specs.Model.{Frame, read, update, At, earlier, number, nearest, slot, Fits}
-use Rattle.order.specs.Running.{FitFrame, Decides}
+use Rattle.order.specs.Fitting.{FitFrame, Decides}
 use Rattle.order.proofs.Places.{at-below, by-kind}
 use Rattle.order.proofs.Slots.{found}
 use Rattle.batch.specs.Batch.{Before, SlotIs}

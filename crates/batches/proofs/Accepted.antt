@@ -16,7 +16,7 @@ use Rattle.tables.specs.declared.refusal.Checked.{Checked}
 use Rattle.tables.specs.declared.refusal.Checked.the-variants.{Fine, Refused}
 use Rattle.tables.proofs.Accepted.{held, then-first, then-second}
 use Rattle.tables.proofs.Soundness.{Words, accepted-pattern, accepted-tree}
-use Rattle.order.specs.Running.{Fit, FitFrame}
+use Rattle.order.specs.Fitting.{Fit, FitFrame}
 use Rattle.parts.specs.Parts.{part, count, placed, countCheck, stepsCheck, nodesCheck}
 use Rattle.frames.specs.Frames.{kind, treeAt, restCheck, frameCheck}
 use Rattle.frames.proofs.Accepted.{frame-kind, frame-steps, frame-behind, steps-room, insert-nodes}

@@ -16,7 +16,7 @@ use Rattle.parts.specs.Parts.{count}
 use Rattle.frames.specs.Frames.{kind, treeAt, endOf, frameCheck}
 use Rattle.conflict.specs.Conflict.{Update}
 use Rattle.order.specs.Model.{Frame, At, here, there, Fits}
-use Rattle.order.specs.Running.{FitFrame}
+use Rattle.order.specs.Fitting.{FitFrame}
 use Rattle.order.proofs.Places.{at-below}
 use Rattle.batches.specs.Batches.{meaning, framesFrom, batchOf, checkFrom, batchCheck}
 use Rattle.frames.proofs.Ending.{end-behind}
@@ -69,33 +69,38 @@ module _ (b : List ℕ) where
     unfolding checkFrom
     check-off k = check-enough k at (length b) 0 (omega arith) (omega arith)
 
-fits-none : Fits FitFrame []
-fits-none = record { fit = λ p. absurd (omega (arith, at-below p)) }
+-- what holds of each frame that meets no refusal holds of each frame of a batch that meets none
+module _ {Fit : Frame (List ℕ) Update → Type 0} where
+  fits-none : Fits Fit []
+  fits-none = record { fit = λ p. absurd (omega (arith, at-below p)) }
 
-fits-one : {f : Frame (List ℕ) Update} {l : List (Frame (List ℕ) Update)} → FitFrame f → Fits FitFrame l → Fits FitFrame (f ∷ l)
-fits-one {f} {l} first rest = record { fit = go }
-  where
-    go : {k : ℕ} {g : Frame (List ℕ) Update} → At (f ∷ l) k g → FitFrame g
-    go here = first
-    go (there p) = rest .fit p
+  fits-one : {f : Frame (List ℕ) Update} {l : List (Frame (List ℕ) Update)} → Fit f → Fits Fit l → Fits Fit (f ∷ l)
+  fits-one {f} {l} first rest = record { fit = go }
+    where
+      go : {k : ℕ} {g : Frame (List ℕ) Update} → At (f ∷ l) k g → Fit g
+      go here = first
+      go (there p) = rest .fit p
 
-fits-from : (b : List ℕ) → Words b → (n at most : ℕ) → checkFrom b n at most ≡ Fine → Fits FitFrame (framesFrom b at most)
-unfolding framesFrom checkFrom
-fits-from b words n at zero e = fits-none
-fits-from b words n at (suc most) e = go (ltb at (length b)) e (fits-from b words (suc n) (endOf b at) most)
-  where
-    go : (t : Bool) → cond t (frameCheck b n at then checkFrom b (suc n) (endOf b at) most) Fine ≡ Fine
-        → (checkFrom b (suc n) (endOf b at) most ≡ Fine → Fits FitFrame (framesFrom b (endOf b at) most))
-        → Fits FitFrame (cond t (meaning b at ∷ framesFrom b (endOf b at) most) [])
-    go true e rest =
-        fits-one (frame-fit b n at (then-first (frameCheck b n at) _ e) words) (rest (then-second (frameCheck b n at) _ e))
-    go false e rest = fits-none
+  module _ (b : List ℕ) (one : (n at : ℕ) → frameCheck b n at ≡ Fine → Fit (meaning b at)) where
+    fits-from : (n at most : ℕ) → checkFrom b n at most ≡ Fine → Fits Fit (framesFrom b at most)
+    unfolding framesFrom checkFrom
+    fits-from n at zero e = fits-none
+    fits-from n at (suc most) e = go (ltb at (length b)) e (fits-from (suc n) (endOf b at) most)
+      where
+        go : (t : Bool) → cond t (frameCheck b n at then checkFrom b (suc n) (endOf b at) most) Fine ≡ Fine
+            → (checkFrom b (suc n) (endOf b at) most ≡ Fine → Fits Fit (framesFrom b (endOf b at) most))
+            → Fits Fit (cond t (meaning b at ∷ framesFrom b (endOf b at) most) [])
+        go true e rest = fits-one (one n at (then-first (frameCheck b n at) _ e)) (rest (then-second (frameCheck b n at) _ e))
+        go false e rest = fits-none
 
 pub accepted-frames : (b : List ℕ) → batchCheck b ≡ Fine → checkFrom b 0 0 (length b) ≡ Fine
 unfolding batchCheck
 accepted-frames b e = then-second (test (leb (length b) batchLimit) (refuse 10 6 0)) _ e
 
+pub accepted-each : {Fit : Frame (List ℕ) Update → Type 0} (b : List ℕ) → ((n at : ℕ) → frameCheck b n at ≡ Fine → Fit (meaning b at)) → batchCheck b ≡ Fine → Fits Fit (batchOf b)
+unfolding batchOf
+accepted-each b one e = fits-from b one 0 0 (length b) (accepted-frames b e)
+
 -- each frame of an accepted batch is fit
 pub accepted-fits : (b : List ℕ) → Words b → batchCheck b ≡ Fine → Fits FitFrame (batchOf b)
-unfolding batchOf
-accepted-fits b words e = fits-from b words 0 0 (length b) (accepted-frames b e)
+accepted-fits b words e = accepted-each b (λ n at fine. frame-fit b n at fine words) e

@@ -73,7 +73,7 @@ module _ (r : List ℕ) {d : Doc} (sound : Sound d) where
 
   -- below a node that r selects, r hits the way of the parent
   hits-parent : {u v : ℕ} → Below (d .rows) u v → v < d .used → selected r d u ≡ true → hits r (up (d .rows) (parent (d .rows) v)) ≡ true
-  hits-parent {u} {v} below h e = go below (by-selected sound r u e (λ reads short. hits-run r (up (d .rows) u) ∙ run-below r (last r) (up (d .rows) u) reads))
+  hits-parent {u} {v} below h e = go below (by-selected r d u e (λ there reads. hits-run r (up (d .rows) u) ∙ run-below r (last r) (up (d .rows) u) reads))
     where
       go : {n : ℕ} → Below (d .rows) n v → hits r (up (d .rows) n) ≡ true → hits r (up (d .rows) (parent (d .rows) v)) ≡ true
       go (one child) hit = rw (child .under) hit
@@ -127,7 +127,7 @@ module _ (r : List ℕ) (u : Update) (read : Pattern r) (update : Pattern (patte
           let root : 0 < v = not-root (t .under) in
           let w : List ℕ = up (t .tree) (parent (t .tree) v) in
           let some : empty w ≡ false = some-up (t .tree) (parent (t .tree) v) in
-          let lands : Lands p w = by-selected (t .sound) p v here (λ updates short. lands-of p (tag (t .tree) v) w some (rw (way-node (t .sound) v root inside) at updates)) in
+          let lands : Lands p w = by-selected p d v here (λ there updates. lands-of p (tag (t .tree) v) w some (rw (way-node (t .sound) v root inside) at updates)) in
           let hit : hits r w ≡ true = hits-parent r (t .sound) (t .under) inside (selecting read (t .sound) (t .node) .1 (t .read)) in
           (lands .two, fewestOf-within r true p false (last r) (pred (last p)) w (record { reads = sym (hits-run r w) ∙ hit; updates = lands .before }) .some)
 

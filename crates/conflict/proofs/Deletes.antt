@@ -10,8 +10,7 @@ use lib.ListN.{length}
 use Rattle.tables.specs.Limits.{wordLimit}
 use Rattle.tables.specs.Words.{steps, label}
 use Rattle.tables.specs.Patterns.{Pattern}
-use Rattle.tables.specs.Documents.{Doc, bare, present, Sound}
-use Rattle.selection.specs.Lists.{count}
+use Rattle.tables.specs.Documents.{Doc, bare, Sound}
 use Rattle.selection.specs.Ways.{up, run, last, selected}
 use Rattle.selection.specs.Operations.{hits, deleted}
 use Rattle.selection.proofs.Runs.{hits-run}
@@ -23,7 +22,7 @@ use Rattle.conflict.proofs.Steps.{Within}
 use Rattle.conflict.proofs.Meeting.{Labels, Common}
 use Rattle.conflict.proofs.Shortest.{length-meetingOf, fewestOf-most, meetingOf-labels, meetingOf-common, fewestOf-within}
 use Rattle.conflict.proofs.Chains.{chain-sound, chain-last, chain-selected-last}
-use Rattle.conflict.proofs.Depth.{by-selected}
+use Rattle.conflict.proofs.Depth.{by-selected, Reached}
 use Rattle.conflict.proofs.Smallest.{Decides, by-differs, differs-at, differs-conflict, smallest, unchanged}
 
 -- a way that the read selects and the delete hits
@@ -55,16 +54,16 @@ module _ (r p : List ℕ) where
   deleteWay-labels = meetingOf-labels r false p true (last r) (last p)
 
 module _ (r p : List ℕ) (pattern : Pattern r) (two : 1 < steps p) where
-  -- the way of a node that is lost is one that the read selects and the delete hits, and no node is gained: so deleteWay has no more labels
-  -- than a document on which the sets differ has present nodes
-  pub delete-within : (d : Doc) → Sound d → Differs r (delete p) d → Within (length (deleteWay r p)) (count (present d) (d .used))
-  delete-within d sound differs =
+  -- the way of a node that is lost is one that the read selects and the delete hits, and no node is gained: so where the sets differ,
+  -- deleteWay has no more labels than this way
+  pub delete-reached : (d : Doc) → Sound d → Differs r (delete p) d → Reached (length (deleteWay r p)) d
+  delete-reached d sound differs =
       by-differs pattern sound (deleted-sound p d two sound) differs
       (λ v here gone.
-      by-selected sound r v here (λ reads short.
+      by-selected r d v here (λ there reads.
       let hit : hits p (up (d .rows) v) ≡ true = not-false (hits p (up (d .rows) v)) (rw (deleted-selects r p d v, here) at gone) in
       let cut : Cut r p (up (d .rows) v) = record { reads = reads; updates = sym (hits-run p (up (d .rows) v)) ∙ hit } in
-      omega (arith, deleteWay-within r p (up (d .rows) v) cut)))
+      record { at = v; here = there; within = deleteWay-within r p (up (d .rows) v) cut }))
       (λ v gone here. absurd (false≢true (rw (deleted-selects r p d v, gone) at here)))
 
   module _ (names : (k : ℕ) → label r k < wordLimit) (others : (k : ℕ) → label p k < wordLimit) where
@@ -85,7 +84,7 @@ module _ (r p : List ℕ) (pattern : Pattern r) (two : 1 < steps p) where
 
     -- so the way decides
     pub decides-delete : Decides r (delete p) (deleteWay r p)
-    decides-delete = record { witness = delete-witness; within = delete-within }
+    decides-delete = record { witness = delete-witness; reached = delete-reached }
 
     -- the way's labels are as many as a smallest witness has nodes
     pub smallest-delete : Smallest r (delete p) (length (deleteWay r p))

@@ -12,6 +12,18 @@ use Rattle.selection.proofs.Up.{Up, top, node, way-is}
 use Rattle.selection.proofs.Runs.{both}
 use Rattle.selection.proofs.Lists.{count-mono, count-holds}
 use Rattle.selection.proofs.Presence.{present-used}
+use Rattle.conflict.proofs.Steps.{Within}
+
+-- what a selected node tells, with a motive
+pub by-selected : {X : Type 0} (p : List ℕ) (d : Doc) (v : ℕ) → selected p d v ≡ true → (present d v ≡ true → sel p (up (d .rows) v) ≡ true → X) → X
+unfolding selected
+by-selected p d v e f = both (present d v) (sel p (up (d .rows) v)) e f
+
+-- a present node whose way has n labels or more, and n is not 0
+pub record Reached (n : ℕ) (d : Doc) : Type 0 where
+  pub at : ℕ
+  pub here : present d at ≡ true
+  pub within : Within n (length (up (d .rows) at))
 
 module _ {d : Doc} (sound : Sound d) where
   depth-up : {v : ℕ} {w : List ℕ} → Up (d .rows) v w → present d v ≡ true → length w ≤ count (present d) (suc v)
@@ -25,13 +37,11 @@ module _ {d : Doc} (sound : Sound d) where
       )
 
   -- that of a present node has at most as many labels as there are present nodes
-  pub depth : (v : ℕ) → present d v ≡ true → length (up (d .rows) v) ≤ count (present d) (d .used)
+  depth : (v : ℕ) → present d v ≡ true → length (up (d .rows) v) ≤ count (present d) (d .used)
   depth v here =
       let h : v < d .used = present-used d v here in
       omega (arith, depth-up (way-is sound v h) here, count-mono (present d) (suc v) (d .used) h)
 
-  -- what a selected node tells of its way, with a motive
-  pub by-selected : {X : Type 0} (p : List ℕ) (v : ℕ) → selected p d v ≡ true
-      → (sel p (up (d .rows) v) ≡ true → length (up (d .rows) v) ≤ count (present d) (d .used) → X) → X
-  unfolding selected
-  by-selected p v e f = both (present d v) (sel p (up (d .rows) v)) e (λ here way. f way (depth v here))
+  -- so the document has at least n present nodes
+  pub reached-within : {n : ℕ} → Reached n d → Within n (count (present d) (d .used))
+  reached-within far = omega (arith, far .within, depth (far .at) (far .here))

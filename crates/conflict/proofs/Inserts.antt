@@ -10,7 +10,7 @@ use lib.ListN.{length, getD}
 use Rattle.tables.specs.Limits.{wordLimit}
 use Rattle.tables.specs.Words.{steps, nodes, label}
 use Rattle.tables.specs.Patterns.{Pattern}
-use Rattle.tables.specs.Documents.{Doc, bare, present, Sound}
+use Rattle.tables.specs.Documents.{Doc, bare, Sound}
 use Rattle.selection.specs.Lists.{count}
 use Rattle.selection.specs.Ways.{up, run, last, sel, selected}
 use Rattle.selection.specs.Operations.{points, copies, inserted, stored}
@@ -23,7 +23,7 @@ use Rattle.conflict.proofs.Steps.{Within}
 use Rattle.conflict.proofs.Meeting.{Labels}
 use Rattle.conflict.proofs.Crossing.{Crossing, run-some, goes-on-join, goes-on-split, goes-on-before}
 use Rattle.conflict.proofs.Chains.{chain-sound, chain-last, chain-selected-last}
-use Rattle.conflict.proofs.Depth.{by-selected}
+use Rattle.conflict.proofs.Depth.{by-selected, Reached}
 use Rattle.conflict.proofs.Smallest.{Decides, by-differs, differs-at, differs-conflict, smallest, unchanged}
 use Rattle.conflict.proofs.Entering.{Somewhere, of-somewhere, to-somewhere, Entry, entering-entry, entering-within, entering-most, entering-labels}
 
@@ -60,10 +60,10 @@ module _ (r p x : List ℕ) (pattern : Pattern r) (tree : Sound (bare x)) where
         common = record { reads = c .rest; updates = updates };
       }
 
-  -- at the end of the way of the update point above a node that is gained, the read enters, and no node is lost: so insertWay has no more
-  -- labels than a document on which the sets differ has present nodes
-  pub insert-within : (d : Doc) → Sound d → Differs r (insert p x) d → Within (length (insertWay r p x)) (count (present d) (d .used))
-  insert-within d sound differs =
+  -- at the end of the way of the update point above a node that is gained, the read enters, and no node is lost: so where the sets differ,
+  -- insertWay has no more labels than this way
+  pub insert-reached : (d : Doc) → Sound d → Differs r (insert p x) d → Reached (length (insertWay r p x)) d
+  insert-reached d sound differs =
       by-differs pattern sound (inserted-sound p x d tree sound) differs
       (λ v here gone. absurd (false≢true (sym gone ∙ kept v (selected-used r d v here) ∙ here)))
       (λ v gone here. placed v gone here (inserted-placed p x d v (selected-used r (inserted p x d) v here)))
@@ -72,13 +72,13 @@ module _ (r p x : List ℕ) (pattern : Pattern r) (tree : Sound (bare x)) where
       kept v h = kept-selected (inserted-kept p x d tree sound) r v h
 
       placed : (v : ℕ) → selected r d v ≡ false → selected r (inserted p x d) v ≡ true → Placed x (d .used) (copies p d) v
-          → Within (length (insertWay r p x)) (count (present d) (d .used))
+          → Reached (length (insertWay r p x)) d
       placed v gone here (old h) = absurd (false≢true (sym gone ∙ sym (kept v h) ∙ here))
       placed v gone here (copied c k h m e) =
           let q : ℕ = getD (points p d) c 0 in
           let reads : sel r (up x k ++ up (d .rows) q) ≡ true = sym (copy-selected (inserted-copy p x d tree sound c h) r k m) ∙ (rw e at here) in
-          by-selected sound p q (point-selected p d c h) (λ updates short.
-          omega (arith, insertWay-within r p x (up (d .rows) q) (entry-of (up (d .rows) q) k m updates reads)))
+          by-selected p d q (point-selected p d c h) (λ there updates.
+          record { at = q; here = there; within = insertWay-within r p x (up (d .rows) q) (entry-of (up (d .rows) q) k m updates reads) })
 
   -- a copy under an update point gains the nodes that r selects in it
   gains : {d : Doc} → Sound d → (q k : ℕ) → selected p d q ≡ true → k < nodes x → sel r (up x k ++ up (d .rows) q) ≡ true → Differs r (insert p x) d
@@ -107,7 +107,7 @@ module _ (r p x : List ℕ) (pattern : Pattern r) (tree : Sound (bare x)) where
 
     -- so the way decides
     pub decides-insert : Decides r (insert p x) (insertWay r p x)
-    decides-insert = record { witness = insert-witness; within = insert-within }
+    decides-insert = record { witness = insert-witness; reached = insert-reached }
 
     -- the way's labels are as many as a smallest witness has nodes
     pub smallest-insert : Smallest r (insert p x) (length (insertWay r p x))

@@ -9,4 +9,5 @@ pub mod Smallest
 pub mod Deletes
 pub mod Entering
 pub mod Inserts
+pub mod Chained
 pub mod Deeps

@@ -1,5 +1,5 @@
--- What decides a conflict: a way whose chain is a witness, and that has no more labels than any document on which the sets differ has
--- present nodes. Its number of labels is the number of nodes of a smallest witness, and there is only one such number.
+-- What decides a conflict: a way whose chain is a witness, and that has no more labels than the way of some present node of any document on
+-- which the sets differ. Its number of labels is the number of nodes of a smallest witness, and there is only one such number.
 use Prim.Native.Nat.{ℕ, _<_, _≤_}
 use native.Mathlib.Nat.{eq-zero-or-pos, le-antisymm}
 use native.Mathlib.Omega.{arith}
@@ -19,6 +19,7 @@ use Rattle.conflict.specs.Conflict.{Update, after, Differs, lost, gained
 use Rattle.conflict.specs.Crossing.{chain}
 use Rattle.conflict.proofs.Steps.{Within}
 use Rattle.conflict.proofs.Chains.{nodes-chain}
+use Rattle.conflict.proofs.Depth.{Reached, reached-within}
 
 -- two numbers of nodes of a smallest witness are equal
 pub smallest-one : {r : List ℕ} {u : Update} {m n : ℕ} → Smallest r u m → Smallest r u n → m ≡ n
@@ -69,20 +70,24 @@ module _ {r : List ℕ} {u : Update} {d : Doc} (pattern : Pattern r) (sound : So
 -- the way decides whether r and u conflict
 pub record Decides (r : List ℕ) (u : Update) (way : List ℕ) : Type 0 where
   pub witness : 0 < length way → Witness r u (chain way)
-  pub within : (d : Doc) → Sound d → Differs r u d → Within (length way) (count (present d) (d .used))
+  pub reached : (d : Doc) → Sound d → Differs r u d → Reached (length way) d
 
 module _ {r : List ℕ} {u : Update} {way : List ℕ} (decides : Decides r u way) where
+  -- a sound document on which the sets differ has at least as many present nodes as the way has labels
+  pub differs-within : {d : Doc} → Sound d → Differs r u d → Within (length way) (count (present d) (d .used))
+  differs-within {d} sound differs = reached-within sound (decides .reached d sound differs)
+
   -- any sound document on which the sets differ shows a conflict
   pub differs-conflict : {d : Doc} → Sound d → Differs r u d → Conflict r u
   differs-conflict {d} sound differs =
-      record { tree = chain way; shows = decides .witness (decides .within d sound differs .some) }
+      record { tree = chain way; shows = decides .witness (differs-within sound differs .some) }
 
   -- and the number of labels of the way is the number of nodes of a smallest witness
   pub smallest : Smallest r u (length way)
   smallest = record {
-    none = λ e c. omega (arith, decides .within (bare (c .tree)) (c .shows .sound) (c .shows .differs));
+    none = λ e c. omega (arith, differs-within (c .shows .sound) (c .shows .differs));
     some = λ h. (chain way, decides .witness h, nodes-chain way);
-    fewest = λ t w. omega (arith, decides .within (bare t) (w .sound) (w .differs), count-most (present (bare t)) (nodes t));
+    fewest = λ t w. omega (arith, differs-within (w .sound) (w .differs), count-most (present (bare t)) (nodes t));
   }
 
   -- where there is no conflict, an update that leaves a sound document sound changes no selection

@@ -1,9 +1,9 @@
 -- Conflicts: definitions 3 and 4 of document 000, over the operations on tables and finite trees of any size.
-use Prim.Native.Nat.{ℕ, _<_, _≤_}
+use Prim.Native.Nat.{ℕ, suc, _<_, _≤_}
 use mathlib.Core.Path.{_≡_}
 use mathlib.Core.List.{List}
 use mathlib.Core.Logic.{_⊎_}
-use Rattle.tables.specs.Words.{nodes}
+use Rattle.tables.specs.Words.{nodes, parent}
 use Rattle.tables.specs.Documents.{Doc, bare, Sound}
 use Rattle.selection.specs.Embeddings.{Below, Selects}
 use Rattle.selection.specs.Operations.{deleted, inserted}
@@ -42,6 +42,15 @@ pub record Smallest (r : List ℕ) (u : Update) (n : ℕ) : Type 0 where
   pub none : n ≡ 0 → Conflict r u → ⊥
   pub some : 0 < n → (t : List ℕ) × Witness r u t × (nodes t ≡ n)
   pub fewest : (t : List ℕ) → Witness r u t → n ≤ nodes t
+
+-- t is a smallest witness: one of the fewest nodes
+pub record SmallestWitness (r : List ℕ) (u : Update) (t : List ℕ) : Type 0 where
+  pub shows : Witness r u t
+  pub fewest : (s : List ℕ) → Witness r u s → nodes t ≤ nodes s
+
+-- t is a chain: every node but the root has the node before it as its parent
+pub record Chain (t : List ℕ) : Type 0 where
+  pub before : (v : ℕ) → suc v < nodes t → parent t (suc v) ≡ v
 
 -- some tree has an update point below a node that the read selects
 pub record Touches (r : List ℕ) (u : Update) : Type 0 where

@@ -1,4 +1,8 @@
 -- The demands, proved.
 pub mod Thirteen
-pub mod Demands
+pub mod Orders
+pub mod Updates
 pub mod Agreeing
+pub mod Keeping
+pub mod Example
+pub mod Demands

@@ -21,7 +21,11 @@ use Rattle.admission.specs.Order.{roomCheck, patternsCheck, deepDeleteCheck, de
 use Rattle.batches.specs.Batches.{checkFrom, batchCheck, planCheck}
 use Rattle.lines.specs.Lines.{characterCheck, lineCheck}
 use Rattle.printer.specs.Printer.{takeCheck, Lines, bad, good, stopped}
-use Rattle.demands.specs.Demands.{Numbered, Thirteen}
+use Rattle.demands.specs.Demands.{Numbered}
+
+-- a check gives no other refusal
+pub record Thirteen (c : Checked) : Type 0 where
+  pub numbered : (r : Refusal) → c ≡ Refused r → Numbered r
 
 fine : Thirteen Fine
 fine = record { numbered = λ r e. let z : _≡_ {A = ℕ} 0 1 = cc in absurd (omega arith) }
@@ -29,6 +33,9 @@ fine = record { numbered = λ r e. let z : _≡_ {A = ℕ} 0 1 = cc in absurd (o
 refusal : (n table place : ℕ) → T (leb 1 n) → T (leb n 13) → Thirteen (refuse n table place)
 refusal n table place h k =
     record { numbered = λ r e. let q : n ≡ r .number = cc in record { least = rw (← q) (lit≤ h); most = rw (← q) (lit≤ k) } }
+
+pub ten : Thirteen (refuse 10 6 0)
+ten = refusal 10 6 0 tt tt
 
 -- checks made of parts
 tested : (b : Bool) (n table place : ℕ) → T (leb 1 n) → T (leb n 13) → Thirteen (test b (refuse n table place))
@@ -64,7 +71,7 @@ pub documents : (d : Doc) → Thirteen (documentCheck d)
 unfolding documentCheck usedCheck markCheck
 documents d = search (chained, tested, walked, nodes-of)
 
-outputs : (wanted have : ℕ) → Thirteen (outputCheck wanted have)
+pub outputs : (wanted have : ℕ) → Thirteen (outputCheck wanted have)
 unfolding outputCheck
 outputs wanted have = search tested
 

@@ -1,48 +1,68 @@
 -- The customer's three demands over the public promises. That every call ends is part of what it means that a function is proved.
-use Prim.Native.Nat.{ℕ, _+_, _*_, _-_, _<_, _≤_}
+--
+--   DemandOne     each call's refusals, by its order of checks
+--   DemandTwo     the verdict and its witness; reading, deleting and inserting, by embeddings
+--   DemandThree   the plan; a batch run call by call, in any order that keeps the plan
+--   Besides       what else document 01 says of the calls: deep verdicts, plans, the two readings, the walker, what stays, P1 to P15
+--
+-- A call is named by its promise: Read, Delete, Insert, NodeVerdict, DeepVerdict, Plan and so on, each over what is lent to it before and after.
+-- Told says that an exported function returns the numbers of an answer that meets such a promise.
+use Prim.Native.Nat.{ℕ, _+_, _*_, _-_, _/_, _<_, _≤_}
 use mathlib.Core.Path.{_≡_}
-use mathlib.Core.List.{List, []}
+use mathlib.Core.Bool.{false}
+use mathlib.Core.List.{List, [], _∷_}
 use mathlib.Core.Logic.{_↔_}
-use lib.ListN.{length, getD, take}
+use lib.ListN.{length, getD, take, drop}
 use Rattle.tables.specs.Words.{steps, nodes}
-use Rattle.tables.specs.Limits.{usedLimit, wordLimit, batchLimit}
-use Rattle.tables.specs.Documents.{Doc, Sound}
+use Rattle.tables.specs.Patterns.{Pattern}
+use Rattle.tables.specs.Limits.{wordLimit}
+use Rattle.tables.specs.Documents.{Doc, doc, bare, mark, present, Sound}
 use Rattle.tables.specs.declared.refusal.Refusal.{Refusal}
 use Rattle.tables.specs.declared.refusal.Checked.{Checked}
 use Rattle.tables.specs.declared.refusal.Checked.the-variants.{Fine, Refused}
-use Rattle.tables.specs.Checks.{patternCheck, treeCheck, documentCheck}
-use Rattle.frames.specs.Frames.{frameCheck}
-use Rattle.walking.specs.Walking.{stepAt}
-use Rattle.outcomes.specs.declared.frames.Stepped.the-variants as walker
-use Rattle.plain.specs.Plain.{PlainRead}
-use Rattle.reading.specs.Reading.{Read}
-use Rattle.updating.specs.Updating.{Delete, Insert}
-use Rattle.outcomes.specs.declared.updates.Deleted.the-variants as deleted
-use Rattle.outcomes.specs.declared.updates.Inserted.the-variants as inserted
+use Rattle.tables.specs.Checks.{_then_, outputCheck, patternCheck, treeCheck, documentCheck}
+use Rattle.answers.specs.declared.answer.Answer.{Answer}
+use Rattle.answers.specs.Answers.{refusing, Told}
+use Rattle.numbers.specs.Numbers.{ofChecked, ofDeleted, ofInserted, ofVerdict, ofDeeply}
+use Rattle.batch_numbers.specs.Numbers.{ofStepped, ofPlanned, ofParsed, ofSpelled, ofPrinted}
+use Rattle.selection.specs.Lists.{count}
 use Rattle.selection.specs.Embeddings.{Selects}
 use Rattle.selection.specs.Rows.{Row}
-use Rattle.conflict.specs.Conflict.{Update, delete, insert, pattern, after as after-update, Witness, Conflict}
-use Rattle.admission.specs.Order.{verdictCheck}
+use Rattle.selection.specs.Operations.{fits}
+use Rattle.bare.specs.Bare.{plainCheck}
+use Rattle.plain.specs.Plain.{PlainRead}
+use Rattle.readable.specs.Readable.{readCheck}
+use Rattle.reading.specs.Reading.{Read}
+use Rattle.updating.specs.Updating.{deleteCheck, insertCheck, Delete, Insert}
+use Rattle.outcomes.specs.declared.updates.Deleted.the-variants as deleted
+use Rattle.outcomes.specs.declared.updates.Inserted.the-variants as inserted
+use Rattle.conflict.specs.Conflict.{Update, delete, insert, pattern, after as after-update, Witness, Conflict, Deep, SmallestWitness, Chain}
+use Rattle.admission.specs.Order.{verdictCheck, deepCheck}
 use Rattle.verdict.specs.Promise.{NodeVerdict, witnessNodes}
 use Rattle.deep.specs.Promise.{DeepVerdict}
 use Rattle.outcomes.specs.declared.verdicts.Verdict.{Verdict}
 use Rattle.outcomes.specs.declared.verdicts.Verdict.the-variants as verdict
 use Rattle.outcomes.specs.declared.verdicts.Deeply.the-variants as deep
-use Rattle.order.specs.Model.{Frame, At, read, update, number}
-use Rattle.order.specs.Order.{Stands, Before, Same, met}
-use Rattle.order.specs.Running.{running, SameSets}
-use Rattle.batches.specs.Batches.{batchOf}
+use Rattle.marked.specs.Marked.{Marked}
+use Rattle.order.specs.Model.{Frame, At, read, update, earlier, number}
+use Rattle.order.specs.Order.{Stands, Before, own}
+use Rattle.calls.specs.Calls.{Reply, Called, called, Run, Has, Runs, NoRoom, Works, SameRuns}
+use Rattle.walking.specs.Walking.{walkCheck, stepAt, placeAfter, numberAfter}
+use Rattle.outcomes.specs.declared.frames.Stepped.the-variants as walker
+use Rattle.batches.specs.Batches.{batchOf, batchCheck, planCheck}
 use Rattle.batch.specs.Batch.{Plan, SlotIs}
 use Rattle.outcomes.specs.declared.plans.Planned.the-variants as planned
-use Rattle.lines.specs.Lines.{ReadAs}
+use Rattle.digits.specs.Digits.{wordsOf, lineOf}
+use Rattle.lines.specs.Lines.{lineCheck, ReadAs}
 use Rattle.outcomes.specs.declared.texts.Parsed.the-variants as parsed
 use Rattle.spelling.specs.Spelling.{WrittenAs}
 use Rattle.outcomes.specs.declared.texts.Spelled.the-variants as spelled
 use Rattle.printer.specs.Printer.{Lines, stopped, PrintedAs}
 use Rattle.outcomes.specs.declared.texts.Printed.{Printed}
 use Rattle.outcomes.specs.declared.texts.Printed.the-variants as printed
+use Rattle.demands.specs.Updates.{DeletedBy, InsertedBy}
 
--- every word of the list has 16 bits
+-- every word of the list has 16 bits, as every word that is lent to a call
 abbrev pub Words : List ℕ → Type 0
 Words t = (i : ℕ) → getD t i 0 < wordLimit
 
@@ -51,32 +71,46 @@ pub record Numbered (r : Refusal) : Type 0 where
   pub least : 1 ≤ r .number
   pub most : r .number ≤ 13
 
--- a check gives no other refusal
-pub record Thirteen (c : Checked) : Type 0 where
-  pub numbered : (r : Refusal) → c ≡ Refused r → Numbered r
+-- the numbers a are by an order of checks: no refusal where that is fine; else its refusal, with number, table and place, which is one of the
+-- thirteen, and what was lent is kept
+pub record ByOrder (order : Checked) (a : Answer) (Kept : Type 0) : Type 0 where
+  pub works : order ≡ Fine → a .refusal ≡ 0
+  pub refused : (why : Refusal) → order ≡ Refused why → (a ≡ refusing why) × Numbered why × Kept
 
--- Demand 1: a refusal is one of the thirteen, and changes no buffer that was lent
+-- nothing that could change was lent
+abbrev pub Nothing : Type 0
+Nothing = Unit {0}
+
+-- Demand 1: a call is refused exactly where its order of checks gives a refusal, by that one, and then changes no buffer that was lent; else it works
 pub record DemandOne : Type 0 where
-  pub patterns : (p : List ℕ) (limit table : ℕ) → Thirteen (patternCheck p limit table)
-  pub trees : (t : List ℕ) (limit table : ℕ) → Thirteen (treeCheck t limit table)
-  pub documents : (d : Doc) → Thirteen (documentCheck d)
-  pub frames : (b : List ℕ) (n at : ℕ) → Thirteen (frameCheck b n at)
-  pub plain : (p t before after : List ℕ) (r : Refusal) → PlainRead p t before after (Refused r) → Numbered r × (after ≡ before)
-  pub reads : (p : List ℕ) (table : ℕ) (d : Doc) (before after : List ℕ) (r : Refusal) → Read p table d before after (Refused r) → Numbered r × (after ≡ before)
-  pub deletes : (p : List ℕ) (d : Doc) (before after : List ℕ) (r : Refusal) → Delete p d before after (deleted.Refused r) → Numbered r × (after ≡ before)
-  pub inserts : (p x : List ℕ) (d : Doc) (rows₀ marks₀ rows₁ marks₁ : List ℕ) (r : Refusal) → Insert p x d rows₀ marks₀ rows₁ marks₁ (inserted.Refused r) → Numbered r × (rows₁ ≡ rows₀) × (marks₁ ≡ marks₀)
-  pub verdicts : (r : List ℕ) (u : Update) (before after : List ℕ) (why : Refusal) → NodeVerdict r u before after (verdict.Refused why) → Numbered why × (after ≡ before)
-  pub deeps : (r : List ℕ) (u : Update) (why : Refusal) → DeepVerdict r u (deep.Refused why) → Numbered why
-  pub plans : (b before after : List ℕ) (why : Refusal) → Plan b before after (planned.Refused why) → Numbered why × (after ≡ before)
-  pub lines-in : (s : List ℕ) (line : ℕ) (before after : List ℕ) (why : Refusal) → ReadAs s line before after (parsed.Refused why) → Numbered why × (after ≡ before)
-  pub lines-out : (ws before after : List ℕ) (why : Refusal) → WrittenAs ws before after (spelled.Refused why) → Numbered why × (after ≡ before)
-  -- the walker is refused at a frame by the order for a batch, and over 16,384 words by 10 at every call
-  pub walks : (b : List ℕ) (n at : ℕ) (why : Refusal) → length b ≤ batchLimit → stepAt b n at ≡ walker.Refused why → Numbered why × (frameCheck b n at ≡ Refused why)
-  pub long-walks : (b : List ℕ) (n at : ℕ) → batchLimit < length b → stepAt b n at ≡ walker.Refused (record { number = 10; table = 6; place = 0 })
+  pub patterns : (p : List ℕ) (limit table : ℕ) → ByOrder (patternCheck p limit table) (ofChecked (patternCheck p limit table)) Nothing
+  pub trees : (t : List ℕ) (limit table : ℕ) → ByOrder (treeCheck t limit table) (ofChecked (treeCheck t limit table)) Nothing
+  pub documents : (d : Doc) → ByOrder (documentCheck d) (ofChecked (documentCheck d)) Nothing
+  pub plain : (p t before after : List ℕ) (a : Answer) → Told ofChecked (PlainRead p t before after) a → ByOrder (plainCheck p t (length before)) a (after ≡ before)
+  pub reads : (p : List ℕ) (table : ℕ) (d : Doc) (before after : List ℕ) (a : Answer) → Told ofChecked (Read p table d before after) a →
+      ByOrder (readCheck p table d (length before)) a (after ≡ before)
+  pub deletes : (p : List ℕ) (d : Doc) (before after : List ℕ) (a : Answer) → Told ofDeleted (Delete p d before after) a → ByOrder (deleteCheck p d) a (after ≡ before)
+  pub inserts : (p x : List ℕ) (d : Doc) (rows₀ marks₀ rows₁ marks₁ : List ℕ) (a : Answer) → Told ofInserted (Insert p x d rows₀ marks₀ rows₁ marks₁) a →
+      ByOrder (insertCheck p x d) a ((rows₁ ≡ rows₀) × (marks₁ ≡ marks₀))
+  pub verdicts : (r : List ℕ) (u : Update) (before after : List ℕ) (a : Answer) → Told ofVerdict (NodeVerdict r u before after) a →
+      ByOrder (verdictCheck r u (length before)) a (after ≡ before)
+  pub deeps : (r : List ℕ) (u : Update) (a : Answer) → Told ofDeeply (DeepVerdict r u) a → ByOrder (deepCheck r u) a Nothing
+  pub walks : (b : List ℕ) (n at : ℕ) → ByOrder (walkCheck b n at) (ofStepped (stepAt b n at)) Nothing
+  pub plans : (b before after : List ℕ) (a : Answer) → Told ofPlanned (Plan b before after) a → ByOrder (planCheck b (length before)) a (after ≡ before)
+  pub lines-in : (s : List ℕ) (line : ℕ) (before after : List ℕ) (a : Answer) → Told ofParsed (ReadAs s line before after) a →
+      ByOrder (lineCheck s line then outputCheck (length s / 4) (length before)) a (after ≡ before)
+  pub lines-out : (ws before after : List ℕ) (a : Answer) → Told ofSpelled (WrittenAs ws before after) a →
+      ByOrder (outputCheck (4 * length ws) (length before)) a (after ≡ before)
   -- printing is refused by 7 alone; else its bytes are fixed, and a refusal that they tell is one of the thirteen
-  pub prints : (s before after : List ℕ) (why : Refusal) → PrintedAs s before after (printed.Refused why) → (why .number ≡ 7) × (after ≡ before)
+  pub prints : (s before after : List ℕ) (answer : Printed) (h : PrintedAs s before after answer) →
+      ByOrder (outputCheck (length (h .text)) (length before)) (ofPrinted answer) (after ≡ before)
   pub prints-one : (s before one two : List ℕ) (x y : Printed) → PrintedAs s before one x → PrintedAs s before two y → (x ≡ y) × (one ≡ two)
   pub prints-refusal : (s : List ℕ) (line : ℕ) (why : Refusal) → Lines s 0 0 [] [] (stopped line why) → Numbered why
+
+-- every word of an update has 16 bits
+abbrev pub UpdateWords : Update → Type 0
+UpdateWords (delete p) = Words p
+UpdateWords (insert p x) = Words p × Words x
 
 -- Demand 2: a verdict that is not refused says yes exactly if some finite document shows a difference, and then writes such a document,
 -- of the fewest nodes possible and never more than the steps of both patterns together less one
@@ -86,25 +120,89 @@ pub record DemandTwo : Type 0 where
   pub size : (r : List ℕ) (u : Update) (before after : List ℕ) (n : ℕ) → NodeVerdict r u before after (verdict.Conflict n) → nodes (take (2 * n) after) ≡ n
   pub fewest : (r : List ℕ) (u : Update) (before after : List ℕ) (n : ℕ) → NodeVerdict r u before after (verdict.Conflict n) → (t : List ℕ) → Witness r u t → n ≤ nodes t
   pub bound : (r : List ℕ) (u : Update) (before after : List ℕ) (n : ℕ) → NodeVerdict r u before after (verdict.Conflict n) → n ≤ steps r + steps (pattern u) - 1
-  -- reading and updating a given document follow the same definitions
+  -- a smallest witness is always a chain
+  pub chain : (r : List ℕ) (u : Update) → Words r → UpdateWords u → deepCheck r u ≡ Fine → (t : List ℕ) → SmallestWitness r u t → Chain t
+  -- what a difference is made of: on every sound document an update does what it should by embeddings
+  pub deletes : (p : List ℕ) (d : Doc) → Pattern p → Sound d → DeletedBy p d (after-update (delete p) d)
+  pub inserts : (p x : List ℕ) (d : Doc) → Pattern p → Sound (bare x) → Sound d → (n : ℕ) × InsertedBy p x d (after-update (insert p x) d) n
+  -- reading and updating a given document follow the same definitions, and a document that meets no refusal is sound
+  pub sound : (d : Doc) → Words (d .rows) → documentCheck d ≡ Fine → Sound d
   pub reading : (p : List ℕ) (table : ℕ) (d : Doc) (before after : List ℕ) → Words (d .rows) → Read p table d before after Fine → Row (Selects p d) (d .used) before after
-  pub deleting : (p : List ℕ) (d : Doc) (before after : List ℕ) (n : ℕ) → Delete p d before after (deleted.Removed n) → after ≡ after-update (delete p) d .marks
-  pub inserting : (p x : List ℕ) (d : Doc) (rows₀ marks₀ rows₁ marks₁ : List ℕ) (n used : ℕ) → Insert p x d rows₀ marks₀ rows₁ marks₁ (inserted.Copied n used) →
-      (rows₁ ≡ after-update (insert p x) d .rows) × (marks₁ ≡ after-update (insert p x) d .marks)
+  pub deleting : (p : List ℕ) (d : Doc) (marks : List ℕ) (n : ℕ) → Words (d .rows) → Delete p d (d .marks) marks (deleted.Removed n) → DeletedBy p d (doc (d .rows) marks (d .used))
+  pub inserting : (p x : List ℕ) (d : Doc) (rows marks : List ℕ) (n used : ℕ) → Words (d .rows) → Words x → Insert p x d (d .rows) (d .marks) rows marks (inserted.Copied n used) →
+      InsertedBy p x d (doc rows marks used) n
+  -- by the very functions of which a conflict speaks; present before equals present after plus the number that a delete tells
+  pub same-delete : (p : List ℕ) (d : Doc) (marks : List ℕ) (n : ℕ) → Delete p d (d .marks) marks (deleted.Removed n) → doc (d .rows) marks (d .used) ≡ after-update (delete p) d
+  pub same-insert : (p x : List ℕ) (d : Doc) (rows marks : List ℕ) (n used : ℕ) → Insert p x d (d .rows) (d .marks) rows marks (inserted.Copied n used) → doc rows marks used ≡ after-update (insert p x) d
+  pub removals : (p : List ℕ) (d : Doc) (marks : List ℕ) (n : ℕ) → Delete p d (d .marks) marks (deleted.Removed n) →
+      count (present d) (d .used) ≡ count (present (doc (d .rows) marks (d .used))) (d .used) + n
 
 -- an order that keeps the updates in sequence and runs each read after the update of its slot in the plan and before every update that follows it
 pub record Keeps (plan : List ℕ) (b : List (Frame (List ℕ) Update)) (o : List ℕ) : Type 0 where
+  -- every frame stands in it, once, and nothing else does
   pub every : (k : ℕ) → k < length b → Stands o k
   pub once : {p q k : ℕ} → At o p k → At o q k → p ≡ q
   pub only : {p k : ℕ} → At o p k → k < length b
+  -- the updates in sequence; each read after the update of its slot, and before every update that follows it
   pub in-sequence : {i j : ℕ} {u w : Update} → At b i (update u) → At b j (update w) → i < j → Before o i j
   pub after-slot : {i j : ℕ} {r : List ℕ} {u : Update} → At b i (read r) → At b j (update u) → number b j ≡ getD plan i 0 → Before o j i
   pub before-later : {i j : ℕ} {r : List ℕ} {u : Update} → At b i (read r) → At b j (update u) → i < j → Before o i j
 
--- Demand 3: the plan of an accepted batch gives each read its slot; in every order that keeps the plan each read gives the same set of
--- nodes as in the batch's own order, the last document is the same, and the same inserts are refused for room
+-- a batch and a document that meet no refusal
+pub record Start (b : List ℕ) (d : Doc) : Type 0 where
+  pub words : Words b
+  pub batch : batchCheck b ≡ Fine
+  pub rows : Words (d .rows)
+  pub document : documentCheck d ≡ Fine
+
+-- an example: delete a/b, then read a/c
+abbrev pub example : List ℕ
+example = 3 ∷ 2 ∷ 0 ∷ 1 ∷ 1 ∷ 2 ∷ 1 ∷ 2 ∷ 0 ∷ 1 ∷ 1 ∷ 3 ∷ []
+
+-- Demand 3: the plan of an accepted batch gives each read its slot. Take any document that meets no refusal, a run of the batch by its calls in any
+-- order that keeps the plan, and one in the batch's own order: they give the same, and no call is refused but an insert for room
 pub record DemandThree : Type 0 where
   pub slots : (b before plan : List ℕ) (n k : ℕ) (r : List ℕ) → Plan b before plan (planned.Frames n) → At (batchOf b) k (read r) → SlotIs (batchOf b) k r (getD plan k 0)
-  pub orders : (b before plan : List ℕ) (n : ℕ) → Words b → Plan b before plan (planned.Frames n) → (d : Doc) → Sound d → (o : List ℕ) → Keeps plan (batchOf b) o → Same running (batchOf b) o d
-  pub sets : (b before plan : List ℕ) (n : ℕ) → Words b → Plan b before plan (planned.Frames n) → (d : Doc) → Sound d → (o : List ℕ) → Keeps plan (batchOf b) o → SameSets (batchOf b) o d
-  pub rows : (b : List ℕ) (d : Doc) → d .used ≤ usedLimit → (o : List ℕ) (k : ℕ) → met running (batchOf b) o d k .used ≤ usedLimit
+  pub orders : (b before plan : List ℕ) (n : ℕ) → Plan b before plan (planned.Frames n) → (d : Doc) → Start b d → (o : List ℕ) → Keeps plan (batchOf b) o →
+      (one other : List Called) (last end : Doc) → Run (batchOf b) o d one last → Run (batchOf b) (own (batchOf b)) d other end → SameRuns (batchOf b) one last other end
+  pub works : (b : List ℕ) (d : Doc) → Start b d → (o : List ℕ) (calls : List Called) (last : Doc) → Run (batchOf b) o d calls last →
+      (i k : ℕ) (e : Doc) (answer : Reply) → At calls i (called k e answer) → (f : Frame (List ℕ) Update) → At (batchOf b) k f → Works f answer
+  -- an insert is refused for room exactly where its copies do not fit into the document that it met
+  pub room : (b : List ℕ) (d : Doc) → Start b d → (o : List ℕ) (calls : List Called) (last : Doc) → Run (batchOf b) o d calls last →
+      (i k : ℕ) (e : Doc) (answer : Reply) → At calls i (called k e answer) → (p x : List ℕ) → At (batchOf b) k (update (insert p x)) → NoRoom answer ↔ (fits p x e ≡ false)
+  -- there are such orders and runs: the batch's own order keeps its plan, and so does one in which the example's read has moved; in every order of its frames there is a run, with a call for each
+  pub own-keeps : (b before plan : List ℕ) (n : ℕ) → Words b → Plan b before plan (planned.Frames n) → Keeps plan (batchOf b) (own (batchOf b))
+  pub start : Start example (doc (0 ∷ 1 ∷ 0 ∷ 2 ∷ []) (0 ∷ 0 ∷ []) 2)
+  pub moved : Plan example (0 ∷ 0 ∷ []) (1 ∷ 0 ∷ []) (planned.Frames 2) × Keeps (1 ∷ 0 ∷ []) (batchOf example) (1 ∷ 0 ∷ [])
+  pub runs : (b : List (Frame (List ℕ) Update)) (o : List ℕ) (d : Doc) → ((p k : ℕ) → At o p k → k < length b) → Runs b o d
+  pub calls : (b : List (Frame (List ℕ) Update)) (o : List ℕ) (d last : Doc) (calls : List Called) → Run b o d calls last → (i k : ℕ) → At o i k → Has calls i k
+
+-- Besides: what else document 01 says of the calls
+pub record Besides : Type 0 where
+  -- the deep verdict: yes exactly if there is a node conflict or, in some tree, an update point below a node that the read selects
+  pub deep-yes : (r : List ℕ) (u : Update) → DeepVerdict r u deep.Yes → Deep r u
+  pub deep-no : (r : List ℕ) (u : Update) → DeepVerdict r u deep.No → Deep r u → ⊥
+  -- an update's plan word is its number among the updates, from 1; batches that agree on a read and the updates before it give it the same slot
+  pub numbers : (b before plan : List ℕ) (n k : ℕ) (u : Update) → Plan b before plan (planned.Frames n) → At (batchOf b) k (update u) → getD plan k 0 ≡ number (batchOf b) k
+  pub same-slot : (b c : List ℕ) → Words b → Words c → batchCheck b ≡ Fine → batchCheck c ≡ Fine → (k l : ℕ) (r : List ℕ) → At (batchOf b) k (read r) → At (batchOf c) l (read r) →
+      earlier (batchOf b) k ≡ earlier (batchOf c) l → (v w : ℕ) → SlotIs (batchOf b) k r v → SlotIs (batchOf c) l r w → v ≡ w
+  -- the two readings agree at every node
+  pub readings : (p t marks : List ℕ) → Words t → ((v : ℕ) → v < nodes t → getD marks v 0 ≡ 0) → (table : ℕ) (before row before′ plain : List ℕ) →
+      Read p table (doc t marks (nodes t)) before row Fine → PlainRead p t before′ plain Fine → (v : ℕ) → v < nodes t → getD row v 0 ≡ getD plain v 0
+  -- the walker stays at a bad frame and at its end
+  pub walker-refused : (b : List ℕ) (n at : ℕ) (why : Refusal) → stepAt b n at ≡ walker.Refused why → stepAt b (numberAfter b n at) (placeAfter b n at) ≡ walker.Refused why
+  pub walker-over : (b : List ℕ) (n at : ℕ) → stepAt b n at ≡ walker.Over → stepAt b (numberAfter b n at) (placeAfter b n at) ≡ walker.Over
+  -- with no conflict every output word stays, and behind any result all stays: behind a witness, a plan, marks, words and bytes
+  pub clear-stays : (r : List ℕ) (u : Update) (before after : List ℕ) → NodeVerdict r u before after verdict.Clear → after ≡ before
+  pub witness-behind : (r : List ℕ) (u : Update) (before after : List ℕ) (n : ℕ) → NodeVerdict r u before after (verdict.Conflict n) →
+      (length after ≡ length before) × (drop (2 * n) after ≡ drop (2 * n) before)
+  pub marks-behind : (p : List ℕ) (d : Doc) (marks : List ℕ) (n : ℕ) → Delete p d (d .marks) marks (deleted.Removed n) →
+      (length marks ≡ length (d .marks)) × ((v : ℕ) → d .used ≤ v → getD marks v 0 ≡ mark d v)
+  pub tables-behind : (p x : List ℕ) (d : Doc) (rows marks : List ℕ) (n used : ℕ) → Insert p x d (d .rows) (d .marks) rows marks (inserted.Copied n used) →
+      (length rows ≡ length (d .rows)) × (length marks ≡ length (d .marks)) × ((i : ℕ) → 2 * used ≤ i → getD rows i 0 ≡ getD (d .rows) i 0) × ((v : ℕ) → used ≤ v → getD marks v 0 ≡ mark d v)
+  pub plan-behind : (b before after : List ℕ) (n : ℕ) → Plan b before after (planned.Frames n) → (length after ≡ length before) × ((i : ℕ) → n ≤ i → getD after i 0 ≡ getD before i 0)
+  pub words-behind : (s : List ℕ) (line : ℕ) (before after : List ℕ) (n : ℕ) → ReadAs s line before after (parsed.Words n) → drop n after ≡ drop n before
+  pub digits-behind : (ws before after : List ℕ) (n : ℕ) → WrittenAs ws before after (spelled.Digits n) → drop n after ≡ drop n before
+  pub bytes-behind : (s before after : List ℕ) (n : ℕ) → PrintedAs s before after (printed.Bytes n) → drop n after ≡ drop n before
+  -- P1 to P15
+  pub examples : Marked

@@ -1,2 +1,3 @@
--- The three demands.
+-- The three demands, and what a delete and an insert do by embeddings.
+pub mod Updates
 pub mod Demands

@@ -1,4 +1,5 @@
-// Whether the read at one place of a batch conflicts with the update at another, by the verdict on the parts of the batch where they stand.
+// Whether the read at one place of a batch conflicts with the update at another, by the verdict on the parts of the batch where they stand. What
+// the verdict refuses is answered as a conflict: a read that stays where it is can do no harm.
 use outcomes::verdicts::Verdict;
 use tables::limits::STEP_LIMIT;
 use tables::words::word;
@@ -13,7 +14,7 @@ ghost use Rattle.tables.specs.Limits.{stepLimit};
 ghost use Rattle.conflict.specs.Conflict.{delete, insert};
 ghost use Rattle.parts.specs.Parts.{part};
 ghost use Rattle.batches.specs.Batches.{patternOf, treeOf, updateOf};
-ghost use Rattle.judging.specs.Judging.{Clash};
+ghost use Rattle.judging.specs.Judging.{Clash, said};
 
 // Words of the longest witness.
 const WORDS: usize = 2 * (STEP_LIMIT + STEP_LIMIT - 1);
@@ -25,28 +26,31 @@ fn scratch() -> [u16; WORDS]
     [0; WORDS]
 }
 
-// Whether a read and a delete are accepted and conflict.
-fn delete_conflicts(r: &[u16], p: &[u16]) -> bool
-    ensures { λ c. ⌜ (c ≡ true) ↔ Clash (now (r .entry)) (delete (now (p .entry))) ⌝ }
+// Whether a verdict says that they clash.
+fn clash(answer: Verdict) -> bool
+    ensures { λ c. ⌜ c ≡ said answer ⌝ }
 {
-    let mut out = scratch();
-    match delete_verdict(r, p, &mut out) {
-        Verdict::Refused(_) => false,
+    match answer {
+        Verdict::Refused(_) => true,
         Verdict::Clear => false,
         Verdict::Conflict(_) => true,
     }
 }
 
-// Whether a read and an insert are accepted and conflict.
+// Whether a read and a delete conflict, if they are accepted.
+fn delete_conflicts(r: &[u16], p: &[u16]) -> bool
+    ensures { λ c. ⌜ (c ≡ true) ↔ Clash (now (r .entry)) (delete (now (p .entry))) ⌝ }
+{
+    let mut out = scratch();
+    clash(delete_verdict(r, p, &mut out))
+}
+
+// Whether a read and an insert conflict, if they are accepted.
 fn insert_conflicts(r: &[u16], p: &[u16], x: &[u16]) -> bool
     ensures { λ c. ⌜ (c ≡ true) ↔ Clash (now (r .entry)) (insert (now (p .entry)) (now (x .entry))) ⌝ }
 {
     let mut out = scratch();
-    match insert_verdict(r, p, x, &mut out) {
-        Verdict::Refused(_) => false,
-        Verdict::Clear => false,
-        Verdict::Conflict(_) => true,
-    }
+    clash(insert_verdict(r, p, x, &mut out))
 }
 
 // So many words of the batch from here on, fewer where it ends.
@@ -84,7 +88,7 @@ fn nodes(b: &[u16], at: usize) -> &[u16]
     taken(b, end + 1, 2 * word(b, end))
 }
 
-// Whether the read at one place and the update at another are accepted and conflict.
+// Whether the read at one place and the update at another conflict, if they are accepted.
 pub fn conflicts(b: &[u16], read: usize, update: usize) -> bool
     ensures { λ c. ⌜ (c ≡ true) ↔ Clash (patternOf (now (b .entry)) read) (updateOf (now (b .entry)) update) ⌝ }
 {

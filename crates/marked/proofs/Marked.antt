@@ -24,7 +24,7 @@ use Rattle.conflict.specs.Crossing.{over, goesOn, somewhere, enters, entering, 
 use Rattle.conflict.proofs.Deletes.{smallest-delete}
 use Rattle.conflict.proofs.Inserts.{smallest-insert}
 use Rattle.conflict.proofs.Deeps.{touching}
-use Rattle.marked.specs.Marked.{Said, Said.nothing, Said.says-yes, Said.says-no, Example, examples, DeepClaim, Claim, Every, Every.none, Every.more}
+use Rattle.marked.specs.Marked.{Said, Said.nothing, Said.says-yes, Said.says-no, Example, examples, DeepClaim, Claim, Every, Every.none, Every.more, Marked}
 
 fine : Checked → Bool
 fine Fine = true
@@ -149,6 +149,6 @@ every-of [] e = none
 every-of (x ∷ xs) e = both (right x) (all-right xs) e (λ h k. more (claim-of x h) (every-of xs k))
 
 -- P1 to P15 hold
-pub marked : Every examples
+pub marked : Marked
 unfolding all-right right fine small accepted nodesOf touched said patternCheck treeCheck sizeCheck each axisCheck axisRight nodeCheck parentRight deleteWay insertWay entering enters somewhere goesOn over shorter longer sooner meetingOf meeting fewestOf fewest least onward agree landing shared up ups
-marked = every-of examples refl
+marked = record { fifteen = refl; every = every-of examples refl }

@@ -1,4 +1,6 @@
 -- The witnesses that document 01 names: the chain a, b for P1, and one of two equal permits deleted for P4.
+use Prim.Native.Nat.{_+_, _*_}
+use native.Mathlib.Omega.{arith}
 use mathlib.Core.Path.{refl, sym}
 use mathlib.Core.List.{[], _∷_}
 use lib.Dec.{lit<}
@@ -12,8 +14,9 @@ use Rattle.selection.specs.Lists.{tab, front, rising}
 use Rattle.selection.specs.Operations.{hits, struck, deleted, copyWords, graft, grafts, points, inserted}
 use Rattle.selection.proofs.Deleting.{deleted-sound}
 use Rattle.selection.proofs.Inserting.{inserted-sound}
-use Rattle.conflict.specs.Conflict.{Witness}
+use Rattle.conflict.specs.Conflict.{pattern, Witness, SmallestWitness}
 use Rattle.conflict.proofs.Smallest.{differs-at}
+use Rattle.conflict.proofs.Chained.{smallest-chain}
 use Rattle.marked.specs.Marked.{chainOfTwo, equalPermits, readP1, updateP1, updateP4}
 use Rattle.marked.proofs.Marked.{words-of, small}
 
@@ -56,3 +59,13 @@ equal-permits =
           2
           false≢true;
     }
+
+-- it is no chain, as node 3 hangs under the root: so it is no smallest witness
+pub equal-permits-larger : SmallestWitness readP1 updateP4 equalPermits → ⊥
+unfolding small
+equal-permits-larger least =
+    omega (
+      arith,
+      smallest-chain readP1 updateP4 read-pattern (lit< tt) (λ k. words-of readP1 refl (2 * k + 1)) (λ k. words-of (pattern updateP4) refl (2 * k + 1)) least
+          .before 2 (lit< tt),
+    )

@@ -1,6 +1,8 @@
 -- The marked examples of document 01: for each, the nodes of a smallest witness and, where the document gives it, the deep verdict.
 use Prim.Native.Nat.{ℕ}
+use mathlib.Core.Path.{_≡_}
 use mathlib.Core.List.{List, [], _∷_, _++_}
+use lib.ListN.{length}
 use Rattle.conflict.specs.Conflict.{Update, Smallest, Deep}
 use Rattle.conflict.specs.Conflict.Update.{delete, insert}
 
@@ -93,6 +95,11 @@ pub record Claim (x : Example) : Type 0 where
 pub data Every : List Example → Type 0 where
   none : Every []
   more : {x : Example} {xs : List Example} → Claim x → Every xs → Every (x ∷ xs)
+
+-- there are fifteen of them, and each holds
+pub record Marked : Type 0 where
+  pub fifteen : length examples ≡ 15
+  pub every : Every examples
 
 -- the chain a, b, which document 01 names as a witness of P1
 abbrev pub chainOfTwo : List ℕ

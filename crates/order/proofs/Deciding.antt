@@ -12,7 +12,7 @@ use Rattle.conflict.specs.Conflict.{Update, delete, insert, Conflict, Smallest}
 use Rattle.conflict.specs.Crossing.{deleteWay, insertWay}
 use Rattle.conflict.proofs.Deletes.{smallest-delete}
 use Rattle.conflict.proofs.Inserts.{smallest-insert}
-use Rattle.order.specs.Running.{Fit, FitUpdate, Decides}
+use Rattle.order.specs.Fitting.{Fit, FitUpdate, Decides}
 
 -- the number of nodes of a smallest witness, 0 for none
 abbrev pub fewest : List ℕ → Update → ℕ

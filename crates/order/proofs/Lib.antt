@@ -5,5 +5,4 @@ pub mod Stages
 pub mod Walking
 pub mod Own
 pub mod Theorem
-pub mod Demand
 pub mod Deciding

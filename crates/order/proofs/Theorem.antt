@@ -3,7 +3,7 @@
 use Prim.Native.Nat.{ℕ, _<_}
 use native.Mathlib.Omega.{arith}
 use native.Mathlib.Nat.{eq-or-lt-of-le}
-use mathlib.Core.Path.{_≡_, sym, _∙_, ap, subst}
+use mathlib.Core.Path.{_≡_, sym, _∙_, subst}
 use mathlib.Core.Bool.{Bool, true}
 use mathlib.Core.List.{List}
 use mathlib.Core.Logic.{⊎-elim}
@@ -61,14 +61,14 @@ module _ {Doc Read Update : Type 0} {model : Model Doc Read Update} {conflicts :
   meets : {o : List ℕ} → Order conflicts b o → {k : ℕ} {f : Frame Read Update} → At b k f → Meets model b d k (met model b o d k)
   meets order {k} p = gives order .meets (order .every k (at-below p))
 
-  -- so each read gives the same set of nodes as in the batch's own order, the last document is the same, and the same inserts are refused
+  -- so each read gives the same set of nodes as in the batch's own order, each update meets the same document, and the last document is the same
   pub order-same : {o : List ℕ} → Order conflicts b o → Same model b o d
   order-same {o} order =
       let own : Order conflicts b (own b) = own-order conflicts b in
       record {
         reads = λ p v. meets order p .reads p v ∙ sym (meets own p .reads p v);
+        updates = λ p. meets order p .updates p ∙ sym (meets own p .updates p);
         document = gives order .document ∙ sym (gives own .document);
-        refusals = λ {k} {u} p. ap (model .outcome u) (meets order p .updates p ∙ sym (meets own p .updates p));
       }
 
   -- every document that a frame meets is sound

@@ -8,8 +8,6 @@ use lib.ListN.{length}
 pub record Model (Doc Read Update : Type 0) : Type 0 where
   -- the document after an update; where the update is refused, the document as it was
   pub apply : Update → Doc → Doc
-  -- whether an update is refused for room
-  pub outcome : Update → Doc → Bool
   -- whether a node is in the set that a read gives
   pub sees : Read → Doc → ℕ → Bool
 

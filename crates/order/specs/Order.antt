@@ -64,7 +64,7 @@ module _ {Doc Read Update : Type 0} (model : Model Doc Read Update) where
   pub record Same (b : List (Frame Read Update)) (o : List ℕ) (d : Doc) : Type 0 where
     -- each read gives the same set of nodes
     pub reads : {k : ℕ} {r : Read} → At b k (read r) → (v : ℕ) → model .sees r (met b o d k) v ≡ model .sees r (met b (own b) d k) v
+    -- each update meets the same document, so it answers the same: the same inserts are refused for room
+    pub updates : {k : ℕ} {u : Update} → At b k (update u) → met b o d k ≡ met b (own b) d k
     -- the last document is the same
     pub document : lastDoc b o d ≡ lastDoc b (own b) d
-    -- the same inserts are refused for room
-    pub refusals : {k : ℕ} {u : Update} → At b k (update u) → model .outcome u (met b o d k) ≡ model .outcome u (met b (own b) d k)

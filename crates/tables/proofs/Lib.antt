@@ -5,3 +5,4 @@ pub mod Tests
 pub mod Branches
 pub mod Accepted
 pub mod Soundness
+pub mod Elsewhere

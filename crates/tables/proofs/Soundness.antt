@@ -1,14 +1,15 @@
 -- What the checks accept: a pattern, a sound tree, a sound document. Words are below 2 ^ 16.
-use Prim.Native.Nat.{ℕ, suc, _+_, _*_, _/_, _%_, _<_, _≤_}
+use Prim.Native.Nat.{ℕ, zero, suc, _+_, _*_, _/_, _%_, _<_, _≤_}
 use mathlib.Core.Path.{_≡_, refl}
 use mathlib.Core.Bool.{Bool, true, false, _&&_, _||_, and-eq-true-iff}
 use mathlib.Core.List.{List}
 use mathlib.Core.Logic.{_⊎_, inl, inr, ⊎-map}
+use native.Mathlib.Decide.{ℕ-discrete}
 use native.Mathlib.Nat.{zero-add}
 use native.Mathlib.Omega.{arith}
 use lib.Dec.{eqb, ltb, leb}
 use lib.ListN.{length, getD}
-use borrow.Author.Tests.{eqb-true, ltb-true, leb-true, ne-eqb, lt-ltb}
+use borrow.Author.Tests.{eqb-true, ltb-true, leb-true, ne-eqb, lt-ltb, le-leb}
 use Rattle.tables.specs.declared.refusal.Checked.{Checked}
 use Rattle.tables.specs.declared.refusal.Checked.the-variants.{Fine}
 use Rattle.tables.specs.Limits.{usedLimit, wordLimit}
@@ -16,7 +17,7 @@ use Rattle.tables.specs.Words.{steps, axis, nodes, parent, tag}
 use Rattle.tables.specs.Patterns.{Pattern}
 use Rattle.tables.specs.Documents.{Doc, bare, mark, Sound}
 use Rattle.tables.specs.Checks.{refuse, _then_, test, each, sizeCheck, axisRight, axisCheck, patternCheck, parentRight, nodeCheck, treeCheck, usedRight, usedCheck, markRight, markCheck, documentCheck}
-use Rattle.tables.proofs.Accepted.{held, then-first, then-second, each-fine}
+use Rattle.tables.proofs.Accepted.{held, then-first, then-second, each-fine, each-all}
 
 -- every word of the list is below 2 ^ 16
 abbrev pub Words : List ℕ → Type 0
@@ -214,3 +215,57 @@ module _ (d : Doc) (e : documentCheck d ≡ Fine) where
             let above : mark d (parent (d .rows) v) ≡ 0 = omega (arith, mark-above v some h) in
             rw (lt-ltb (parent (d .rows) v) (d .used) (omega (arith, falls v some h)), above);
       }
+
+-- and back: a sound document meets no refusal where it has at most 4,096 used nodes, a mark for each of them, and marks 0 and 1
+module _ (d : Doc) (sound : Sound d) (most : d .used ≤ usedLimit) (marks : d .used ≤ length (d .marks)) (bits : (v : ℕ) → v < d .used → mark d v ≤ 1) where
+  root-here : (0 < d .used) × (mark d 0 ≡ 0)
+  root-here = (
+    ltb-true 0 (d .used) (and-first (ltb 0 (d .used)) (eqb (mark d 0) 0) (sound .root)),
+    eqb-true (mark d 0) 0 (and-second (ltb 0 (d .used)) (eqb (mark d 0) 0) (sound .root)),
+  )
+
+  used-accepted : usedCheck d ≡ Fine
+  unfolding usedCheck usedRight
+  used-accepted =
+      rw (lt-ltb 0 (d .used) (root-here .0), le-leb (d .used) usedLimit most, le-leb (d .used) (length (d .rows) / 2) (sound .room), le-leb (d .used) (length (d .marks)) marks)
+
+  parent-accepted : (v : ℕ) → v < d .used → parentRight (d .rows) v ≡ true
+  unfolding parentRight
+  parent-accepted zero h = rw (sound .top)
+  parent-accepted (suc v) h = rw (ne-eqb (suc v) 0 (λ e. omega arith), lt-ltb (parent (d .rows) (suc v)) (suc v) (sound .parents (suc v) (omega arith) h))
+
+  node-accepted : (v : ℕ) → v < d .used → nodeCheck (d .rows) 5 v ≡ Fine
+  unfolding nodeCheck
+  node-accepted v h = rw (parent-accepted v h, lt-ltb 0 (tag (d .rows) v) (sound .named v h))
+
+  -- a node that is not removed has a parent that is not removed, so its mark is not less than its parent's
+  above-accepted : (v : ℕ) → 0 < v → v < d .used → mark d (parent (d .rows) v) ≤ mark d v
+  above-accepted v some h = go (ℕ-discrete (mark d v) 0)
+    where
+      falls : parent (d .rows) v < v
+      falls = sound .parents v some h
+
+      here : mark d v ≡ 0 → mark d (parent (d .rows) v) ≡ 0
+      here e =
+          let above = sound .closed v some (rw (lt-ltb v (d .used) h, e)) in
+          eqb-true (mark d (parent (d .rows) v)) 0 (and-second (ltb (parent (d .rows) v) (d .used)) (eqb (mark d (parent (d .rows) v)) 0) above)
+
+      go : Dec (mark d v ≡ 0) → mark d (parent (d .rows) v) ≤ mark d v
+      go (yes e) = omega (arith, here e)
+      go (no e) = omega (arith, bits (parent (d .rows) v) (omega (arith, falls)))
+
+  mark-accepted : (v : ℕ) → v < d .used → markCheck (d .rows) (d .marks) v ≡ Fine
+  unfolding markCheck markRight
+  mark-accepted zero h = rw (root-here .1)
+  mark-accepted (suc v) h =
+      rw
+      (ne-eqb (suc v) 0 (λ e. omega arith), le-leb (mark d (suc v)) 1 (bits (suc v) h), le-leb (mark d (parent (d .rows) (suc v))) (mark d (suc v)) (above-accepted (suc v) (omega arith) h))
+
+  pub sound-accepted : documentCheck d ≡ Fine
+  unfolding documentCheck
+  sound-accepted =
+      rw (
+        used-accepted,
+        each-all (nodeCheck (d .rows) 5) 0 (d .used) (λ v h. rw zero-add (node-accepted v h)),
+        each-all (markCheck (d .rows) (d .marks)) 0 (d .used) (λ v h. rw zero-add (mark-accepted v h)),
+      )

@@ -7,12 +7,14 @@ use lib.Dec.{ltb}
 use borrow.Author.Tests.{ltb-true}
 use Rattle.tables.specs.Limits.{stepLimit, treeLimit}
 use Rattle.tables.specs.Words.{steps}
+use Rattle.tables.specs.Patterns.{Pattern}
 use Rattle.tables.specs.Documents.{Doc}
 use Rattle.tables.specs.Checks.{_then_, test, refuse, documentCheck, patternCheck, treeCheck}
 use Rattle.tables.specs.declared.refusal.Refusal.{Refusal}
 use Rattle.tables.specs.declared.refusal.Checked.{Checked}
 use Rattle.tables.specs.declared.refusal.Checked.the-variants.{Fine, Refused}
 use Rattle.tables.proofs.Accepted.{held, then-first, then-second}
+use Rattle.tables.proofs.Soundness.{accepted-pattern}
 use Rattle.selection.specs.Operations.{fits}
 use Rattle.selection.proofs.Inserting.{Room, fits-room}
 use Rattle.outcomes.specs.declared.updates.Deleted.the-variants.{Removed, Refused as NotDeleted}
@@ -21,11 +23,18 @@ use Rattle.updating.specs.Updating.{deleteCheck, insertCheck, deleteAnsw
 use Rattle.updating.specs.Asking.{tablesCheck}
 use Rattle.updating.proofs.Asking.{then-assoc}
 
--- a delete: a document, and more than one step
+-- a delete: a document, a pattern, and more than one step
 module _ (p : List ℕ) (d : Doc) (e : deleteCheck p d ≡ Fine) where
   pub delete-document : documentCheck d ≡ Fine
   unfolding deleteCheck
   delete-document = then-first (documentCheck d) (patternCheck p stepLimit 2 then test (ltb 1 (steps p)) (refuse 6 2 0)) e
+
+  pub delete-pattern : Pattern p
+  unfolding deleteCheck
+  delete-pattern =
+      accepted-pattern p stepLimit 2
+      (then-first (patternCheck p stepLimit 2) (test (ltb 1 (steps p)) (refuse 6 2 0))
+      (then-second (documentCheck d) (patternCheck p stepLimit 2 then test (ltb 1 (steps p)) (refuse 6 2 0)) e))
 
   pub delete-steps : 1 < steps p
   unfolding deleteCheck
@@ -65,6 +74,12 @@ module _ (p x : List ℕ) (d : Doc) where
 
     pub insert-document : documentCheck d ≡ Fine
     insert-document = three-document first-three
+
+    pub insert-pattern : Pattern p
+    insert-pattern =
+        accepted-pattern p stepLimit 2
+        (then-first (patternCheck p stepLimit 2) (treeCheck x treeLimit 3)
+        (then-second (documentCheck d) (patternCheck p stepLimit 2 then treeCheck x treeLimit 3) first-three))
 
     pub insert-tree : treeCheck x treeLimit 3 ≡ Fine
     insert-tree = three-tree first-three

@@ -51,7 +51,7 @@ module _ (p : List ℕ) (d : Doc) (sound : Sound d) where
       both (present d v) (sel p (up (d .rows) v)) e
       (λ here way. hits-run p (up (d .rows) v) ∙ run-below p (last p) (up (d .rows) v) way)
 
-  hit-hits : {v : ℕ} → v < d .used → Hit p d v → hits p (up (d .rows) v) ≡ true
+  pub hit-hits : {v : ℕ} → v < d .used → Hit p d v → hits p (up (d .rows) v) ≡ true
   hit-hits {v} h hit = go (hit .above)
     where
       go : (v ≡ hit .place) ⊎ Below (d .rows) (hit .place) v → hits p (up (d .rows) v) ≡ true
@@ -69,7 +69,7 @@ module _ (p : List ℕ) (d : Doc) (sound : Sound d) where
       go (inl e) = one (record { not-root = h; under = e })
       go (inr b) = more b (record { not-root = h; under = refl })
 
-  hits-hit : {v : ℕ} {w : List ℕ} → v < d .used → Up (d .rows) v w → present d v ≡ true → hits p w ≡ true → Hit p d v
+  pub hits-hit : {v : ℕ} {w : List ℕ} → v < d .used → Up (d .rows) v w → present d v ≡ true → hits p w ≡ true → Hit p d v
   unfolding hits
   hits-hit h top e q = either (sel p _) false q (λ s. selects-here h top e s) (λ no. absurd (false≢true no))
   hits-hit h (node {v = v} {w = w} k u) e q =
@@ -77,17 +77,18 @@ module _ (p : List ℕ) (d : Doc) (sound : Sound d) where
       either (sel p _) (hits p w) q (λ s. selects-here h (node k u) e s) (λ b. further k (hits-hit (omega arith) u (sound .closed v k e) b))
 
 module _ (p : List ℕ) (d : Doc) {after : List ℕ} {n : ℕ} (done : Delete p d (d .marks) after (Removed n)) where
-  fine : deleteCheck p d ≡ Fine
-  fine = removed-fine (deleteCheck p d) (removed p d) (done .answered)
+  -- it met no refusal
+  pub delete-fine : deleteCheck p d ≡ Fine
+  delete-fine = removed-fine (deleteCheck p d) (removed p d) (done .answered)
 
   number : n ≡ removed p d
-  number = let e : Removed n ≡ Removed (removed p d) = rw fine at (done .answered) in cc
+  number = let e : Removed n ≡ Removed (removed p d) = rw delete-fine at (done .answered) in cc
 
   marks : after ≡ deleted p d .marks
-  marks = rw fine at (done .marks)
+  marks = rw delete-fine at (done .marks)
 
   -- the document after it
-  delete-doc : doc (d .rows) after (d .used) ≡ deleted p d
+  pub delete-doc : doc (d .rows) after (d .used) ≡ deleted p d
   unfolding deleted
   delete-doc = rw marks
 
@@ -100,7 +101,7 @@ module _ (p : List ℕ) (d : Doc) {after : List ℕ} {n : ℕ} (done : Delete p 
   delete-behind v h = ap (λ (c : Doc). mark c v) delete-doc ∙ deleted-behind p d v h
 
   pub delete-length : length after ≡ length (d .marks)
-  delete-length = rw marks (deleted-length p d (used-facts d (delete-document p d fine) .3))
+  delete-length = rw marks (deleted-length p d (used-facts d (delete-document p d delete-fine) .3))
 
   present-after : (v : ℕ) → present (doc (d .rows) after (d .used)) v ≡ (present d v && not (hits p (up (d .rows) v)))
   present-after v = ap (λ (c : Doc). present c v) delete-doc ∙ present-deleted p d v
@@ -113,11 +114,11 @@ module _ (p : List ℕ) (d : Doc) {after : List ℕ} {n : ℕ} (done : Delete p 
 
   module _ (words : Words (d .rows)) where
     sound : Sound d
-    sound = accepted-document d (delete-document p d fine) words
+    sound = accepted-document d (delete-document p d delete-fine) words
 
     -- a sound document stays sound
     pub delete-sound : Sound (doc (d .rows) after (d .used))
-    delete-sound = rw delete-doc (deleted-sound p d (delete-steps p d fine) sound)
+    delete-sound = rw delete-doc (deleted-sound p d (delete-steps p d delete-fine) sound)
 
     -- every selected node and everything below it is removed
     pub delete-removes : (v : ℕ) → v < d .used → Hit p d v → present (doc (d .rows) after (d .used)) v ≡ false

@@ -26,15 +26,19 @@ insert-same {p} {x} {d} done =
     (rw refused at (done .rows), rw refused at (done .marks))
 
 module _ (p x : List ℕ) (d : Doc) {rows marks : List ℕ} {n used : ℕ} (done : Insert p x d (d .rows) (d .marks) rows marks (Copied n used)) where
-  fine : insertCheck p x d ≡ Fine
-  fine = copied-fine (insertCheck p x d) (copies p d) (d .used + copies p d * nodes x) (sym (done .answered))
+  -- it met no refusal
+  pub insert-fine : insertCheck p x d ≡ Fine
+  insert-fine = copied-fine (insertCheck p x d) (copies p d) (d .used + copies p d * nodes x) (sym (done .answered))
 
   told : Copied n used ≡ Copied (copies p d) (d .used + copies p d * nodes x)
-  told = rw fine at (done .answered)
+  told = rw insert-fine at (done .answered)
 
   -- a copy for each selected node, and the used count grows by copies times nodes
+  pub insert-number : n ≡ copies p d
+  insert-number = cc told
+
   pub insert-copies : n ≡ count (selected p d) (d .used)
-  insert-copies = let e : n ≡ copies p d = cc told in e ∙ copies-count p d
+  insert-copies = insert-number ∙ copies-count p d
 
   pub insert-used : used ≡ d .used + n * nodes x
   insert-used =
@@ -43,15 +47,15 @@ module _ (p x : List ℕ) (d : Doc) {rows marks : List ℕ} {n used : ℕ} (done
       rw e f
 
   -- the document after it
-  insert-doc : doc rows marks used ≡ inserted p x d
+  pub insert-doc : doc rows marks used ≡ inserted p x d
   insert-doc =
-      let e : rows ≡ inserted p x d .rows = rw fine at (done .rows) in
-      let f : marks ≡ inserted p x d .marks = rw fine at (done .marks) in
+      let e : rows ≡ inserted p x d .rows = rw insert-fine at (done .rows) in
+      let f : marks ≡ inserted p x d .marks = rw insert-fine at (done .marks) in
       let g : used ≡ inserted p x d .used = (cc told) ∙ sym (inserted-used p x d) in
       rw (e, f, g)
 
   room : Room p x d
-  room = insert-room p x d fine
+  room = insert-room p x d insert-fine
 
   -- what stands behind the new used count stays, and so do the lengths
   pub insert-words-behind : (i : ℕ) → 2 * used ≤ i → getD rows i 0 ≡ getD (d .rows) i 0
@@ -72,10 +76,10 @@ module _ (p x : List ℕ) (d : Doc) {rows marks : List ℕ} {n used : ℕ} (done
 
   module _ (document : Words (d .rows)) (tree : Words x) where
     sound : Sound d
-    sound = accepted-document d (insert-document p x d fine) document
+    sound = accepted-document d (insert-document p x d insert-fine) document
 
     sound-tree : Sound (bare x)
-    sound-tree = accepted-tree x treeLimit 3 (insert-tree p x d fine) tree
+    sound-tree = accepted-tree x treeLimit 3 (insert-tree p x d insert-fine) tree
 
     -- a sound document stays sound
     pub insert-sound : Sound (doc rows marks used)

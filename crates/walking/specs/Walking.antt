@@ -5,8 +5,11 @@ use mathlib.Core.List.{List}
 use lib.Dec.{ltb, leb}
 use lib.ListN.{length}
 use Rattle.tables.specs.Limits.{batchLimit}
+use Rattle.tables.specs.Checks.{_then_, test, refuse}
+use Rattle.tables.specs.declared.refusal.Checked.{Checked}
+use Rattle.tables.specs.declared.refusal.Checked.the-variants.{Fine}
 use Rattle.parts.specs.Parts.{part}
-use Rattle.frames.specs.Frames.{frameAt}
+use Rattle.frames.specs.Frames.{frameCheck, frameAt}
 use Rattle.outcomes.specs.declared.frames.Framed.{Framed}
 use Rattle.outcomes.specs.declared.frames.Framed.the-variants as framed
 use Rattle.outcomes.specs.declared.frames.Stepped.{Stepped}
@@ -23,6 +26,10 @@ stepAt b n at =
     cond (leb (length b) batchLimit)
     (cond (ltb at (length b)) (answerOf (frameAt b n at)) answer.Over)
     (answer.Refused (record { number = 10; table = 6; place = 0 }))
+
+-- the order of its checks: 10 for words, then the frame's own; none at the end
+unfoldable pub walkCheck : List ℕ → ℕ → ℕ → Checked
+walkCheck b n at = test (leb (length b) batchLimit) (refuse 10 6 0) then cond (ltb at (length b)) (frameCheck b n at) Fine
 
 -- behind a frame its end, else the same place
 abbrev pub placeOf : Stepped → ℕ → ℕ

@@ -1,0 +1,40 @@
+-- An order that keeps the plan of an accepted batch keeps to its slots, and back.
+use Prim.Native.Nat.{ℕ}
+use mathlib.Core.Path.{_≡_, sym, _∙_}
+use mathlib.Core.List.{List}
+use Rattle.tables.specs.declared.refusal.Checked.the-variants.{Fine}
+use Rattle.tables.proofs.Accepted.{then-first}
+use Rattle.order.specs.Order.{Order}
+use Rattle.order.proofs.Deciding.{conflicting}
+use Rattle.batches.specs.Batches.{batchOf, batchCheck, planCheck}
+use Rattle.batch.specs.Batch.{Plan}
+use Rattle.outcomes.specs.declared.plans.Planned.the-variants as planned
+use Rattle.batch.proofs.Laws.{accepted-slot}
+use Rattle.demands.specs.Demands.{Words, Keeps}
+
+module _ (b before plan : List ℕ) (n : ℕ) (words : Words b) (h : Plan b before plan (planned.Frames n)) where
+  accepted : batchCheck b ≡ Fine
+  unfolding planCheck
+  accepted = then-first (batchCheck b) _ (h .0)
+
+  pub keeps-order : {o : List ℕ} → Keeps plan (batchOf b) o → Order conflicting (batchOf b) o
+  keeps-order k =
+      record {
+        every = k .every;
+        once = k .once;
+        only = k .only;
+        in-sequence = k .in-sequence;
+        after-slot = λ at up e. k .after-slot at up (e ∙ sym (accepted-slot b words accepted at _ .0 (h .2 .words at)));
+        before-later = k .before-later;
+      }
+
+  pub order-keeps : {o : List ℕ} → Order conflicting (batchOf b) o → Keeps plan (batchOf b) o
+  order-keeps k =
+      record {
+        every = k .every;
+        once = k .once;
+        only = k .only;
+        in-sequence = k .in-sequence;
+        after-slot = λ at up e. k .after-slot at up (e ∙ accepted-slot b words accepted at _ .0 (h .2 .words at));
+        before-later = k .before-later;
+      }

@@ -1,0 +1,171 @@
+-- Each call is refused exactly where its order of checks gives a refusal, by that one, and a refused call changes nothing.
+use Prim.Native.Nat.{ℕ, _*_, _/_}
+use mathlib.Core.Path.{_≡_, refl, sym, _∙_}
+use mathlib.Core.Bool.{Bool, true, false, cond}
+use mathlib.Core.List.{List}
+use lib.Dec.{ltb, leb}
+use lib.ListN.{length}
+use Rattle.tables.specs.Limits.{batchLimit}
+use Rattle.tables.specs.Documents.{Doc}
+use Rattle.tables.specs.Checks.{_then_, test, refuse, outputCheck, patternCheck, treeCheck, documentCheck}
+use Rattle.tables.specs.declared.refusal.Refusal.{Refusal}
+use Rattle.tables.specs.declared.refusal.Checked.{Checked}
+use Rattle.tables.specs.declared.refusal.Checked.the-variants.{Fine, Refused}
+use Rattle.tables.proofs.Accepted.{never}
+use Rattle.answers.specs.declared.answer.Answer.{Answer}
+use Rattle.answers.specs.Answers.{refusing, Told}
+use Rattle.numbers.specs.Numbers.{ofChecked, ofDeleted, ofInserted, ofVerdict, ofDeeply}
+use Rattle.batch_numbers.specs.Numbers.{ofStepped, ofPlanned, ofParsed, ofSpelled, ofPrinted}
+use Rattle.bare.specs.Bare.{plainCheck}
+use Rattle.plain.specs.Plain.{PlainRead, RowAfter}
+use Rattle.readable.specs.Readable.{readCheck}
+use Rattle.reading.specs.Reading.{Read}
+use Rattle.updating.specs.Updating.{deleteCheck, insertCheck, Delete, Insert}
+use Rattle.updating.proofs.Deletes.{delete-same}
+use Rattle.updating.proofs.Inserts.{insert-same}
+use Rattle.updating.proofs.Accepted.{removed-fine, kept-told, copied-fine, refused-told}
+use Rattle.outcomes.specs.declared.updates.Deleted.{Deleted}
+use Rattle.outcomes.specs.declared.updates.Deleted.the-variants as deleted
+use Rattle.outcomes.specs.declared.updates.Inserted.{Inserted}
+use Rattle.outcomes.specs.declared.updates.Inserted.the-variants as inserted
+use Rattle.conflict.specs.Conflict.{Update}
+use Rattle.admission.specs.Order.{verdictCheck, deepCheck}
+use Rattle.verdict.specs.Promise.{NodeVerdict}
+use Rattle.deep.specs.Promise.{DeepVerdict}
+use Rattle.outcomes.specs.declared.verdicts.Verdict.{Verdict}
+use Rattle.outcomes.specs.declared.verdicts.Verdict.the-variants as verdict
+use Rattle.outcomes.specs.declared.verdicts.Deeply.{Deeply}
+use Rattle.outcomes.specs.declared.verdicts.Deeply.the-variants as deep
+use Rattle.frames.specs.Frames.{frameCheck, frameOf, answered, frameAt}
+use Rattle.walking.specs.Walking.{answerOf, walkCheck, stepAt}
+use Rattle.outcomes.specs.declared.frames.Stepped.the-variants as walker
+use Rattle.batches.specs.Batches.{planCheck}
+use Rattle.batch.specs.Batch.{Plan}
+use Rattle.outcomes.specs.declared.plans.Planned.{Planned}
+use Rattle.outcomes.specs.declared.plans.Planned.the-variants as planned
+use Rattle.lines.specs.Lines.{lineCheck, ReadAs}
+use Rattle.outcomes.specs.declared.texts.Parsed.{Parsed}
+use Rattle.outcomes.specs.declared.texts.Parsed.the-variants as parsed
+use Rattle.spelling.specs.Spelling.{WrittenAs}
+use Rattle.outcomes.specs.declared.texts.Spelled.{Spelled}
+use Rattle.outcomes.specs.declared.texts.Spelled.the-variants as spelled
+use Rattle.printer.specs.Printer.{PrintedAs}
+use Rattle.outcomes.specs.declared.texts.Printed.{Printed}
+use Rattle.outcomes.specs.declared.texts.Printed.the-variants as printed
+use Rattle.demands.specs.Demands.{Numbered, ByOrder, Nothing}
+use Rattle.demands.proofs.Thirteen as thirteen
+use Rattle.demands.proofs.Thirteen.{Thirteen}
+
+-- an order that is fine, and one that refuses
+module _ {order : Checked} {Kept : Type 0} where
+  was-fine : {a : Answer} → order ≡ Fine → a .refusal ≡ 0 → ByOrder order a Kept
+  was-fine fine e = record { works = λ f. e; refused = λ why r. never r fine }
+
+  was-refused : {why : Refusal} → Thirteen order → order ≡ Refused why → Kept → ByOrder order (refusing why) Kept
+  was-refused {why} all r kept =
+      record {
+        works = λ f. never r f;
+        refused = λ other q. let same : why ≡ other = cc (r, q) in (rw same, all .numbered other q, kept);
+      }
+
+  -- the numbers of an answer that meets a promise
+  told : {E : Type 0} {numbers : E → Answer} {P : E → Type 0} {a : Answer} → ((x : E) → P x → ByOrder order (numbers x) Kept) → Told numbers P a → ByOrder order a Kept
+  told each t = rw (t .shown) (each (t .answer) (t .promised))
+
+-- a check by itself
+checks : {Kept : Type 0} (c : Checked) → Thirteen c → ((why : Refusal) → c ≡ Refused why → Kept) → ByOrder c (ofChecked c) Kept
+checks Fine all kept = was-fine refl refl
+checks (Refused why) all kept = was-refused all refl (kept why refl)
+
+pub patterns : (p : List ℕ) (limit table : ℕ) → ByOrder (patternCheck p limit table) (ofChecked (patternCheck p limit table)) Nothing
+patterns p limit table = checks (patternCheck p limit table) (thirteen.patterns p limit table) (λ why e. tt)
+
+pub trees : (t : List ℕ) (limit table : ℕ) → ByOrder (treeCheck t limit table) (ofChecked (treeCheck t limit table)) Nothing
+trees t limit table = checks (treeCheck t limit table) (thirteen.trees t limit table) (λ why e. tt)
+
+pub documents : (d : Doc) → ByOrder (documentCheck d) (ofChecked (documentCheck d)) Nothing
+documents d = checks (documentCheck d) (thirteen.documents d) (λ why e. tt)
+
+-- documents
+pub plains : (p t before after : List ℕ) (a : Answer) → Told ofChecked (PlainRead p t before after) a → ByOrder (plainCheck p t (length before)) a (after ≡ before)
+plains p t before after a =
+    told (λ x h. rw (← h .answered) (checks x (rw (h .answered) (thirteen.plains p t (length before))) (λ why e. rw e at (h .row))))
+
+pub reads : (p : List ℕ) (table : ℕ) (d : Doc) (before after : List ℕ) (a : Answer) → Told ofChecked (Read p table d before after) a
+    → ByOrder (readCheck p table d (length before)) a (after ≡ before)
+reads p table d before after a =
+    told (λ x h. rw (← h .answered) (checks x (rw (h .answered) (thirteen.reads p table d (length before))) (λ why e. rw e at (h .row))))
+
+pub deletes : (p : List ℕ) (d : Doc) (before after : List ℕ) (a : Answer) → Told ofDeleted (Delete p d before after) a → ByOrder (deleteCheck p d) a (after ≡ before)
+deletes p d before after a = told one
+  where
+    one : (x : Deleted) → Delete p d before after x → ByOrder (deleteCheck p d) (ofDeleted x) (after ≡ before)
+    one (deleted.Removed n) h = was-fine (removed-fine _ _ (h .answered)) refl
+    one (deleted.Refused why) h = was-refused (thirteen.deletes p d) (kept-told _ _ (h .answered)) (delete-same h)
+
+pub inserts : (p x : List ℕ) (d : Doc) (rows₀ marks₀ rows₁ marks₁ : List ℕ) (a : Answer) → Told ofInserted (Insert p x d rows₀ marks₀ rows₁ marks₁) a
+    → ByOrder (insertCheck p x d) a ((rows₁ ≡ rows₀) × (marks₁ ≡ marks₀))
+inserts p x d rows₀ marks₀ rows₁ marks₁ a = told one
+  where
+    one : (y : Inserted) → Insert p x d rows₀ marks₀ rows₁ marks₁ y → ByOrder (insertCheck p x d) (ofInserted y) ((rows₁ ≡ rows₀) × (marks₁ ≡ marks₀))
+    one (inserted.Copied n used) h = was-fine (copied-fine _ _ _ (sym (h .answered))) refl
+    one (inserted.Refused why) h = was-refused (thirteen.inserts p x d) (refused-told _ _ _ (sym (h .answered))) (insert-same h)
+
+-- verdicts
+pub verdicts : (r : List ℕ) (u : Update) (before after : List ℕ) (a : Answer) → Told ofVerdict (NodeVerdict r u before after) a
+    → ByOrder (verdictCheck r u (length before)) a (after ≡ before)
+verdicts r u before after a = told one
+  where
+    one : (x : Verdict) → NodeVerdict r u before after x → ByOrder (verdictCheck r u (length before)) (ofVerdict x) (after ≡ before)
+    one verdict.Clear h = was-fine (h .fine) refl
+    one (verdict.Conflict n) h = was-fine (h .fine) refl
+    one (verdict.Refused why) h = was-refused (thirteen.verdicts r u (length before)) (h .given) (h .kept)
+
+pub deeps : (r : List ℕ) (u : Update) (a : Answer) → Told ofDeeply (DeepVerdict r u) a → ByOrder (deepCheck r u) a Nothing
+deeps r u a = told one
+  where
+    one : (x : Deeply) → DeepVerdict r u x → ByOrder (deepCheck r u) (ofDeeply x) Nothing
+    one deep.No h = was-fine (h .fine) refl
+    one deep.Yes h = was-fine (h .fine) refl
+    one (deep.Refused why) h = was-refused (thirteen.deeps r u) h tt
+
+-- batches
+pub walks : (b : List ℕ) (n at : ℕ) → ByOrder (walkCheck b n at) (ofStepped (stepAt b n at)) Nothing
+unfolding walkCheck stepAt frameAt
+walks b n at = go (leb (length b) batchLimit) (ltb at (length b)) (frameCheck b n at) (thirteen.frames b n at)
+  where
+    go : (s t : Bool) (c : Checked) → Thirteen c
+        → ByOrder (test s (refuse 10 6 0) then cond t c Fine)
+        (ofStepped (cond s (cond t (answerOf (answered c (frameOf b at))) walker.Over) (walker.Refused (record { number = 10; table = 6; place = 0 }))))
+        Nothing
+    go true true Fine all = was-fine refl refl
+    go true true (Refused why) all = was-refused all refl tt
+    go true false c all = was-fine refl refl
+    go false t c all = was-refused thirteen.ten refl tt
+
+pub plans : (b before after : List ℕ) (a : Answer) → Told ofPlanned (Plan b before after) a → ByOrder (planCheck b (length before)) a (after ≡ before)
+plans b before after a = told one
+  where
+    one : (x : Planned) → Plan b before after x → ByOrder (planCheck b (length before)) (ofPlanned x) (after ≡ before)
+    one (planned.Frames n) h = was-fine (h .0) refl
+    one (planned.Refused why) h = was-refused (thirteen.plans b (length before)) (h .0) (h .1)
+
+-- lines
+pub lines-in : (s : List ℕ) (line : ℕ) (before after : List ℕ) (a : Answer) → Told ofParsed (ReadAs s line before after) a
+    → ByOrder (lineCheck s line then outputCheck (length s / 4) (length before)) a (after ≡ before)
+lines-in s line before after a = told one
+  where
+    one : (x : Parsed) → ReadAs s line before after x → ByOrder (lineCheck s line then outputCheck (length s / 4) (length before)) (ofParsed x) (after ≡ before)
+    one (parsed.Words n) h = was-fine (h .0) refl
+    one (parsed.Refused why) h = was-refused (thirteen.lines-in s line (length before)) (h .0) (h .1)
+
+pub lines-out : (ws before after : List ℕ) (a : Answer) → Told ofSpelled (WrittenAs ws before after) a → ByOrder (outputCheck (4 * length ws) (length before)) a (after ≡ before)
+lines-out ws before after a = told one
+  where
+    one : (x : Spelled) → WrittenAs ws before after x → ByOrder (outputCheck (4 * length ws) (length before)) (ofSpelled x) (after ≡ before)
+    one (spelled.Digits n) h = was-fine (h .0) refl
+    one (spelled.Refused why) h = was-refused (thirteen.lines-out ws (length before)) (h .0) (h .1)
+
+pub prints : (s before after : List ℕ) (answer : Printed) (h : PrintedAs s before after answer) → ByOrder (outputCheck (length (h .text)) (length before)) (ofPrinted answer) (after ≡ before)
+prints s before after (printed.Bytes n) h = was-fine (h .answered .0) refl
+prints s before after (printed.Refused why) h = was-refused (thirteen.outputs (length (h .text)) (length before)) (h .answered .0) (h .answered .1)

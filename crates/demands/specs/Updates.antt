@@ -1,0 +1,46 @@
+-- What a delete and an insert do to a document, by embeddings.
+use Prim.Native.Nat.{ℕ, _+_, _*_, _<_, _≤_}
+use mathlib.Core.Path.{_≡_}
+use mathlib.Core.Bool.{true}
+use mathlib.Core.List.{List}
+use mathlib.Core.Logic.{_⊎_}
+use lib.ListN.{length, getD}
+use Rattle.tables.specs.Words.{nodes, parent, tag}
+use Rattle.tables.specs.Documents.{Doc, mark, present}
+use Rattle.selection.specs.Embeddings.{Below, Selects}
+
+-- v is a node that p selects, or lies below one
+pub record Covered (p : List ℕ) (d : Doc) (v : ℕ) : Type 0 where
+  pub point : ℕ
+  pub selects : Selects p d point
+  pub under : (v ≡ point) ⊎ Below (d .rows) point v
+
+-- e is d after a delete at p: the present nodes that p covers are marked as removed, and nothing else changes
+pub record DeletedBy (p : List ℕ) (d e : Doc) : Type 0 where
+  pub rows : e .rows ≡ d .rows
+  pub used : e .used ≡ d .used
+  pub removed : (v : ℕ) → present d v ≡ true → Covered p d v → mark e v ≡ 1
+  pub others : (v : ℕ) → (present d v ≡ true → Covered p d v → ⊥) → mark e v ≡ mark d v
+
+-- e is d after an insert of x at p, with n copies
+pub record InsertedBy (p x : List ℕ) (d e : Doc) (n : ℕ) : Type 0 where
+  -- the update points are exactly the nodes that p selects, in rising number: a copy for each
+  pub points : List ℕ
+  pub copies : n ≡ length points
+  pub rising : (i j : ℕ) → i < j → j < n → getD points i 0 < getD points j 0
+  pub only : (c : ℕ) → c < n → Selects p d (getD points c 0)
+  pub every : (v : ℕ) → Selects p d v → (c : ℕ) × (c < n) × (getD points c 0 ≡ v)
+  -- the used count grows by copies times nodes
+  pub used : e .used ≡ d .used + n * nodes x
+  -- the nodes already there stay
+  pub old-parents : (v : ℕ) → v < d .used → parent (e .rows) v ≡ parent (d .rows) v
+  pub old-tags : (v : ℕ) → v < d .used → tag (e .rows) v ≡ tag (d .rows) v
+  pub old-marks : (v : ℕ) → v < d .used → mark e v ≡ mark d v
+  -- copy c stands behind them and behind the copies before it, in the tree's own order: its root under point c, the others as in x, mark 0
+  pub roots : (c : ℕ) → c < n → parent (e .rows) (d .used + c * nodes x) ≡ getD points c 0
+  pub parents : (c k : ℕ) → c < n → 0 < k → k < nodes x → parent (e .rows) (d .used + c * nodes x + k) ≡ d .used + c * nodes x + parent x k
+  pub tags : (c k : ℕ) → c < n → k < nodes x → tag (e .rows) (d .used + c * nodes x + k) ≡ tag x k
+  pub marks : (c k : ℕ) → c < n → k < nodes x → mark e (d .used + c * nodes x + k) ≡ 0
+  -- words and marks behind them stay
+  pub words-behind : (i : ℕ) → 2 * e .used ≤ i → getD (e .rows) i 0 ≡ getD (d .rows) i 0
+  pub marks-behind : (v : ℕ) → e .used ≤ v → mark e v ≡ mark d v
