@@ -1,8 +1,9 @@
-//! Table 3: what a damaged word does to a batch.
+//! Table 3: what a damaged word does to a batch, and what two of them do.
 
 use crate::batch::frames;
 use crate::counts::{Count, Counts};
 use crate::refusal::Refusal;
+use crate::two_damages;
 use std::io::{self, Write};
 
 /// The batches that are damaged; the first is document 01's listing.
@@ -29,9 +30,10 @@ const BATCHES: [&[u16]; 4] = [
 /// What planning a batch answers: its number of frames or a refusal.
 type Answer = Result<usize, Refusal>;
 
-/// Writes table 3: for each word its values, its loss and its doubling.
+/// Writes table 3: for each batch each word's values, its loss and its
+/// doubling, then every two words.
 pub fn write(out: &mut dyn Write) -> io::Result<Counts> {
-    let mut damaged = 0;
+    let (mut damaged, mut doubly) = (0, 0);
     for (batch, words) in (1..).zip(BATCHES) {
         for word in 0..words.len() {
             let at = format!("{batch} {word}");
@@ -39,8 +41,12 @@ pub fn write(out: &mut dyn Write) -> io::Result<Counts> {
             damaged += write_one(out, &at, "lost", &lost(words, word))?;
             damaged += write_one(out, &at, "twice", &twice(words, word))?;
         }
+        doubly += two_damages::write(out, batch, words)?;
     }
-    Ok(vec![Count::new("damaged-batches", damaged)])
+    Ok(vec![
+        Count::new("damaged-batches", damaged),
+        Count::new("doubly-damaged-batches", doubly),
+    ])
 }
 
 /// Tries every value of a word and writes a line for each run of equal

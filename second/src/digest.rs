@@ -1,10 +1,15 @@
 //! The digest that stands for a row of numbers.
 
+use crate::refusal::Refusal;
+
 /// The prime below 2 to the power of 32 by which the digest is reduced.
 const MODULUS: u64 = 4_294_967_291;
 
 /// What the digest is multiplied by before it takes a number.
 const FACTOR: u64 = 65_599;
+
+/// A refusal's number goes into a digest with this added.
+const REFUSAL_BASE: usize = 100;
 
 /// A digest of the numbers taken so far; 0 at first.
 #[derive(Clone, Copy, Debug, Default, PartialEq, Eq)]
@@ -23,6 +28,13 @@ impl Digest {
         for &number in row {
             self.take(number.into());
         }
+    }
+
+    /// Takes a refusal's three numbers.
+    pub fn take_refusal(&mut self, refusal: Refusal) {
+        self.take(REFUSAL_BASE + refusal.number);
+        self.take(refusal.table);
+        self.take(refusal.place);
     }
 
     /// Eight upper-case hexadecimal digits.

@@ -4,7 +4,6 @@ use crate::counts::{Count, Counts};
 use crate::digest::Digest;
 use crate::document::Document;
 use crate::numbering::{trees_of, Numbering, TREE_LABELS};
-use crate::refusal::Refusal;
 use crate::tree::Row;
 use std::io::{self, Write};
 
@@ -19,9 +18,6 @@ const SPARE_NODES: usize = 4;
 
 /// What stands in the mark row behind the used nodes.
 const SPARE_MARK: u8 = 9;
-
-/// A refusal's number goes into a digest with this added.
-const REFUSAL_BASE: usize = 100;
 
 /// How much has been run.
 #[derive(Default)]
@@ -103,7 +99,7 @@ fn deletes(numbering: &Numbering, document: &Document, tally: &mut Tally) -> Dig
                 digest.take(removed);
                 digest.take_all(&changed.marks);
             }
-            Err(refusal) => take_refusal(&mut digest, refusal),
+            Err(refusal) => digest.take_refusal(refusal),
         }
     }
     digest
@@ -121,7 +117,7 @@ fn inserts(numbering: &Numbering, document: &Document, tally: &mut Tally) -> Dig
             let mut changed = document.clone();
             match changed.insert(pattern, inserted) {
                 Ok(copies) => take_insert(&mut digest, copies, &changed),
-                Err(refusal) => take_refusal(&mut digest, refusal),
+                Err(refusal) => digest.take_refusal(refusal),
             }
         }
     }
@@ -134,13 +130,6 @@ fn take_insert(digest: &mut Digest, copies: usize, changed: &Document) {
     digest.take(changed.used);
     digest.take_all(&changed.words);
     digest.take_all(&changed.marks);
-}
-
-/// Takes a refusal's three numbers.
-fn take_refusal(digest: &mut Digest, refusal: Refusal) {
-    digest.take(REFUSAL_BASE + refusal.number);
-    digest.take(refusal.table);
-    digest.take(refusal.place);
 }
 
 #[cfg(test)]

@@ -18,6 +18,7 @@ mod placing;
 mod plans;
 mod refusal;
 mod tree;
+mod two_damages;
 mod updates;
 #[cfg(test)]
 mod verdict;

@@ -14,7 +14,7 @@ use Rattle.tables.specs.declared.refusal.Checked.the-variants.{Fine}
 use Rattle.tables.specs.Checks.{refuse, test, patternCheck, treeCheck}
 use Rattle.tables.proofs.Accepted.{held, then-first, then-second}
 use Rattle.tables.proofs.Soundness.{accepted-pattern, accepted-steps}
-use Rattle.admission.specs.Order.{needed, roomCheck, patternsCheck, deepDeleteCheck, deepInsertCheck, deleteCheck, insertCheck}
+use Rattle.admission.specs.Order.{needed, roomCheck, patternsCheck, deepDeleteCheck, deepInsertCheck, deleteVerdictCheck, insertVerdictCheck}
 use Rattle.admission.specs.Admitted.{Bounded}
 
 module _ {answer : Checked} (n : ℕ) where
@@ -95,20 +95,20 @@ module _ (r p : List ℕ) where
 
   -- the same with an output, which then has room
   module _ (words : ℕ) where
-    pub delete-deep : deleteCheck r p words ≡ Fine → deepDeleteCheck r p ≡ Fine
-    unfolding deleteCheck
+    pub delete-deep : deleteVerdictCheck r p words ≡ Fine → deepDeleteCheck r p ≡ Fine
+    unfolding deleteVerdictCheck
     delete-deep e = then-first (deepDeleteCheck r p) (roomCheck r p words) e
 
-    pub delete-room : deleteCheck r p words ≡ Fine → needed r p ≤ words
-    unfolding deleteCheck
+    pub delete-room : deleteVerdictCheck r p words ≡ Fine → needed r p ≤ words
+    unfolding deleteVerdictCheck
     delete-room e = room-fine r p words (then-second (deepDeleteCheck r p) (roomCheck r p words) e)
 
-    pub insert-deep : (x : List ℕ) → insertCheck r p x words ≡ Fine → deepInsertCheck r p x ≡ Fine
-    unfolding insertCheck
+    pub insert-deep : (x : List ℕ) → insertVerdictCheck r p x words ≡ Fine → deepInsertCheck r p x ≡ Fine
+    unfolding insertVerdictCheck
     insert-deep x e = then-first (deepInsertCheck r p x) (roomCheck r p words) e
 
-    pub insert-room : (x : List ℕ) → insertCheck r p x words ≡ Fine → needed r p ≤ words
-    unfolding insertCheck
+    pub insert-room : (x : List ℕ) → insertVerdictCheck r p x words ≡ Fine → needed r p ≤ words
+    unfolding insertVerdictCheck
     insert-room x e = room-fine r p words (then-second (deepInsertCheck r p x) (roomCheck r p words) e)
 
   -- the words of the longest witness are room enough
@@ -116,10 +116,10 @@ module _ (r p : List ℕ) where
   longest-room b = room-long r p (2 * (stepLimit + stepLimit - 1)) (omega (arith, b .reads, b .updates))
 
   module _ {words : ℕ} (long : words ≡ 2 * (stepLimit + stepLimit - 1)) where
-    pub delete-longest : deepDeleteCheck r p ≡ Fine → deleteCheck r p words ≡ Fine
-    unfolding deleteCheck
+    pub delete-longest : deepDeleteCheck r p ≡ Fine → deleteVerdictCheck r p words ≡ Fine
+    unfolding deleteVerdictCheck
     delete-longest e = rw (e, long, ← longest-room (delete-bounded e))
 
-    pub insert-longest : (x : List ℕ) → deepInsertCheck r p x ≡ Fine → insertCheck r p x words ≡ Fine
-    unfolding insertCheck
+    pub insert-longest : (x : List ℕ) → deepInsertCheck r p x ≡ Fine → insertVerdictCheck r p x words ≡ Fine
+    unfolding insertVerdictCheck
     insert-longest x e = rw (e, long, ← longest-room (insert-bounded x e))

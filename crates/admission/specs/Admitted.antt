@@ -1,4 +1,4 @@
--- What holds of an admitted read and update.
+-- Inside: what holds of an admitted read and update.
 use Prim.Native.Nat.{ℕ, _<_, _≤_}
 use mathlib.Core.List.{List}
 use Rattle.tables.specs.Limits.{stepLimit}

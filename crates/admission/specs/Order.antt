@@ -28,11 +28,11 @@ unfoldable pub deepInsertCheck : List ℕ → List ℕ → List ℕ → Checked
 deepInsertCheck r p x = patternsCheck r p then treeCheck x treeLimit 3
 
 -- the deep verdict has no output
-unfoldable pub deleteCheck : List ℕ → List ℕ → ℕ → Checked
-deleteCheck r p words = deepDeleteCheck r p then roomCheck r p words
+unfoldable pub deleteVerdictCheck : List ℕ → List ℕ → ℕ → Checked
+deleteVerdictCheck r p words = deepDeleteCheck r p then roomCheck r p words
 
-unfoldable pub insertCheck : List ℕ → List ℕ → List ℕ → ℕ → Checked
-insertCheck r p x words = deepInsertCheck r p x then roomCheck r p words
+unfoldable pub insertVerdictCheck : List ℕ → List ℕ → List ℕ → ℕ → Checked
+insertVerdictCheck r p x words = deepInsertCheck r p x then roomCheck r p words
 
 -- both by the update
 abbrev pub deepCheck : List ℕ → Update → Checked
@@ -40,5 +40,5 @@ deepCheck r (delete p) = deepDeleteCheck r p
 deepCheck r (insert p x) = deepInsertCheck r p x
 
 abbrev pub verdictCheck : List ℕ → Update → ℕ → Checked
-verdictCheck r (delete p) words = deleteCheck r p words
-verdictCheck r (insert p x) words = insertCheck r p x words
+verdictCheck r (delete p) words = deleteVerdictCheck r p words
+verdictCheck r (insert p x) words = insertVerdictCheck r p x words

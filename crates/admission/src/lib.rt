@@ -9,7 +9,7 @@ ghost use mathlib.Core.Path.{_≡_};
 ghost use lib.Dec.{ltb};
 ghost use Rattle.tables.specs.Words.{steps};
 ghost use Rattle.tables.specs.Checks.{refuse, test};
-ghost use Rattle.admission.specs.Order.{roomCheck, patternsCheck, deepDeleteCheck, deepInsertCheck, deleteCheck, insertCheck};
+ghost use Rattle.admission.specs.Order.{roomCheck, patternsCheck, deepDeleteCheck, deepInsertCheck, deleteVerdictCheck, insertVerdictCheck};
 
 // Whether an output of so many words is long enough: refusal 7.
 fn room(r: &[u16], p: &[u16], words: usize) -> Checked
@@ -65,7 +65,7 @@ pub fn deep_insert_check(r: &[u16], p: &[u16], x: &[u16]) -> Checked
 
 // A read and a delete, and an output of so many words.
 pub fn delete_check(r: &[u16], p: &[u16], words: usize) -> Checked
-    ensures { λ c. ⌜ c ≡ deleteCheck (now (r .entry)) (now (p .entry)) words ⌝ }
+    ensures { λ c. ⌜ c ≡ deleteVerdictCheck (now (r .entry)) (now (p .entry)) words ⌝ }
 {
     match deep_delete_check(r, p) {
         Checked::Fine => room(r, p, words),
@@ -75,7 +75,7 @@ pub fn delete_check(r: &[u16], p: &[u16], words: usize) -> Checked
 
 // A read and an insert, and an output of so many words.
 pub fn insert_check(r: &[u16], p: &[u16], x: &[u16], words: usize) -> Checked
-    ensures { λ c. ⌜ c ≡ insertCheck (now (r .entry)) (now (p .entry)) (now (x .entry)) words ⌝ }
+    ensures { λ c. ⌜ c ≡ insertVerdictCheck (now (r .entry)) (now (p .entry)) (now (x .entry)) words ⌝ }
 {
     match deep_insert_check(r, p, x) {
         Checked::Fine => room(r, p, words),

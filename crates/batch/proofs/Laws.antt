@@ -8,14 +8,15 @@ use native.Mathlib.Omega.{arith}
 use lib.ListN.{length, getD}
 use lib.Seq.{ext-getD}
 use Rattle.tables.specs.declared.refusal.Checked.the-variants as checked
-use Rattle.tables.proofs.Soundness.{Words}
+use Rattle.tables.specs.Words.{Bits16}
 use Rattle.conflict.specs.Conflict.{Update}
-use Rattle.order.specs.Model.{Frame, read, update, At, earlier, slot}
+use Rattle.order.specs.Model.{slot}
+use Rattle.order.specs.Frames.{Frame, read, update, At, earlier}
 use Rattle.order.proofs.Places.{by-kind}
 use Rattle.order.proofs.Slots.{slot-same}
 use Rattle.order.proofs.Deciding.{conflicting, conflicting-decides}
 use Rattle.batches.specs.Batches.{batchOf, batchCheck}
-use Rattle.batch.specs.Batch.{SlotIs, WordIs, Written, Plan}
+use Rattle.batch.specs.Batch.{SlotIs, WordIs, PlanWritten, Plan}
 use Rattle.outcomes.specs.declared.plans.Planned.{Planned}
 use Rattle.outcomes.specs.declared.plans.Planned.the-variants.{Refused, Frames}
 use Rattle.batches.proofs.Frames.{accepted-fits}
@@ -27,7 +28,7 @@ word-one b k (read r) s t = slot-one s t
 word-one b k (update u) s t = s ∙ sym t
 
 -- two plans of one batch over one buffer are identical
-written-one : {b : List (Frame (List ℕ) Update)} {before one two : List ℕ} → Written b before one → Written b before two → one ≡ two
+written-one : {b : List (Frame (List ℕ) Update)} {before one two : List ℕ} → PlanWritten b before one → PlanWritten b before two → one ≡ two
 written-one {b} {before} {one} {two} s t = ext-getD 0 one two (s .kept ∙ sym (t .kept)) (λ i h. go i (decLt i (length b)))
   where
     go : (i : ℕ) → Dec (i < length b) → getD one i 0 ≡ getD two i 0
@@ -45,13 +46,13 @@ plan-one b before (Frames m) (Refused y) s t = let z : _≡_ {A = ℕ} 0 1 = cc 
 plan-one b before (Frames m) (Frames n) s t = (cc, written-one (s .2) (t .2))
 
 -- a batch of words of 16 bits that is accepted
-module _ (b : List ℕ) (words : Words b) (accepted : batchCheck b ≡ checked.Fine) where
+module _ (b : List ℕ) (words : Bits16 b) (accepted : batchCheck b ≡ checked.Fine) where
   -- the slot of a read, in terms of conflicts, is the slot of demand 3
   pub accepted-slot : {k : ℕ} {r : List ℕ} → At (batchOf b) k (read r) → (w : ℕ) → SlotIs (batchOf b) k r w ↔ (w ≡ slot conflicting (batchOf b) k r)
   accepted-slot at w = slot-exactly conflicting-decides (accepted-fits b words accepted) at w
 
 -- two accepted batches that agree on a read and on the updates before it give that read the same slot
-pub same-slot : (b c : List ℕ) → Words b → Words c → batchCheck b ≡ checked.Fine → batchCheck c ≡ checked.Fine
+pub same-slot : (b c : List ℕ) → Bits16 b → Bits16 c → batchCheck b ≡ checked.Fine → batchCheck c ≡ checked.Fine
     → {k l : ℕ} {r : List ℕ} → At (batchOf b) k (read r) → At (batchOf c) l (read r) → earlier (batchOf b) k ≡ earlier (batchOf c) l
     → {v w : ℕ} → SlotIs (batchOf b) k r v → SlotIs (batchOf c) l r w → v ≡ w
 same-slot b c wb wc ab ac {k} {l} {r} p q same {v} {w} s t =

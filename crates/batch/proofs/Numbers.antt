@@ -5,7 +5,7 @@ use mathlib.Core.List.{List, [], _∷_, _++_}
 use native.Mathlib.Decide.{le-ind, decLt}
 use native.Mathlib.Omega.{arith}
 use lib.ListN.{length, length-append}
-use Rattle.order.specs.Model.{Frame, read, update, At, here, there, updates, updatesAt, earlier, number}
+use Rattle.order.specs.Frames.{Frame, read, update, At, here, there, updates, updatesAt, earlier, number}
 use Rattle.order.proofs.Places.{at-one}
 
 module _ {Read Update : Type 0} where

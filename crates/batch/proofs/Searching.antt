@@ -10,7 +10,7 @@ use native.Mathlib.Omega.{arith}
 use lib.ListN.{length, getD, set}
 use lib.Seq.{getD-set-same, getD-set-other}
 use Rattle.conflict.specs.Conflict.{Update, Conflict}
-use Rattle.order.specs.Model.{read, update, At, earlier, number}
+use Rattle.order.specs.Frames.{read, update, At, earlier, number}
 use Rattle.batches.specs.Batches.{patternOf, updateOf, batchOf}
 use Rattle.batch.specs.Batch.{SlotIs}
 use Rattle.batch.specs.Walking.{Standing, Updating}

@@ -8,11 +8,12 @@ use native.Mathlib.Decide.{decLt}
 use native.Mathlib.Omega.{arith}
 use lib.ListN.{length}
 use Rattle.conflict.specs.Conflict.{Update, Conflict}
-use Rattle.order.specs.Model.{Frame, read, update, At, earlier, number, nearest, slot, Fits}
-use Rattle.order.specs.Fitting.{FitFrame, Decides}
+use Rattle.order.specs.Model.{nearest, slot, Fits}
+use Rattle.order.specs.Frames.{Frame, read, update, At, earlier, number}
+use Rattle.order.specs.Fitting.{FitFrame, DecidedBy}
 use Rattle.order.proofs.Places.{at-below, by-kind}
 use Rattle.order.proofs.Slots.{found}
-use Rattle.batch.specs.Batch.{Before, SlotIs}
+use Rattle.batch.specs.Batch.{EarlierConflict, SlotIs}
 use Rattle.batch.proofs.Numbers.{earlier-next, number-rises}
 
 module _ {b : List (Frame (List ℕ) Update)} {k : ℕ} {r : List ℕ} where
@@ -58,13 +59,13 @@ module _ (meant : Update → Bool) (b : List (Frame (List ℕ) Update)) where
       go u p false e rest = rw (earlier-next p, e) (later (rest (rw (earlier-next p, e) at s)))
 
 -- a test that decides conflicts finds the slot
-module _ {test : List ℕ → Update → Bool} (decides : Decides Conflict test) {b : List (Frame (List ℕ) Update)} (fits : Fits FitFrame b)
+module _ {test : List ℕ → Update → Bool} (decides : DecidedBy Conflict test) {b : List (Frame (List ℕ) Update)} (fits : Fits FitFrame b)
     {k : ℕ} {r : List ℕ} (at : At b k (read r)) where
   pub slot-is : SlotIs b k r (slot test b k r)
   unfolding slot
   slot-is = record { some = some; greatest = greatest }
     where
-      some : 0 < nearest (test r) (earlier b k) → Before b k r (nearest (test r) (earlier b k))
+      some : 0 < nearest (test r) (earlier b k) → EarlierConflict b k r (nearest (test r) (earlier b k))
       some h =
           let s = hit (test r) b k (omega (arith, at-below at)) h in
           record {

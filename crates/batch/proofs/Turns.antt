@@ -13,11 +13,11 @@ use Rattle.tables.specs.Checks.{_then_}
 use Rattle.tables.specs.declared.refusal.Checked.the-variants.{Fine}
 use Rattle.tables.proofs.Accepted.{then-first, then-second}
 use Rattle.conflict.specs.Conflict.{Update}
-use Rattle.order.specs.Model.{Frame, read, update, At, here, there, number}
+use Rattle.order.specs.Frames.{Frame, read, update, At, here, there, number}
 use Rattle.order.proofs.Places.{at-one, at-below}
 use Rattle.frames.specs.Frames.{kind, endOf, frameCheck}
 use Rattle.batches.specs.Batches.{patternOf, updateOf, meaning, framesFrom, batchOf, checkFrom}
-use Rattle.batch.specs.Batch.{SlotIs, WordIs, Written}
+use Rattle.batch.specs.Batch.{SlotIs, WordIs, PlanWritten}
 use Rattle.batch.specs.Walking.{Standing, Updating, Planning}
 use Rattle.frames.proofs.Accepted.{frame-below}
 use Rattle.batches.proofs.Frames.{frames-on, frames-off, check-on, accepted-frames}
@@ -155,7 +155,7 @@ module _ {b : List ℕ} {n : ℕ} {before after places : List ℕ} {m at k : ℕ
         (rw (update-frame other, add-one) (ap suc (s .noted .count)))
 
 -- after the last frame the plan is written
-pub walk-end : {b : List ℕ} {n : ℕ} {before after places : List ℕ} {m at k : ℕ} → Walked b n before after places m at k → n ≤ k → Written (batchOf b) before after
+pub walk-end : {b : List ℕ} {n : ℕ} {before after places : List ℕ} {m at k : ℕ} → Walked b n before after places m at k → n ≤ k → PlanWritten (batchOf b) before after
 walk-end s h =
     let all = s .planning .frames in
     record {

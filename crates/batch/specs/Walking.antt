@@ -1,4 +1,4 @@
--- What the functions of the walk ask and promise.
+-- Inside: what the functions of the walk ask and promise.
 use Prim.Native.Nat.{ℕ, _≤_}
 use mathlib.Core.Path.{_≡_}
 use mathlib.Core.List.{List}

@@ -9,7 +9,7 @@ ghost use mathlib.Core.Path.{_≡_};
 ghost use lib.ListN.{length};
 ghost use Rattle.frames.specs.Frames.{endOf};
 ghost use Rattle.batches.specs.Batches.{batchOf};
-ghost use Rattle.batch.specs.Batch.{Written, Plan};
+ghost use Rattle.batch.specs.Batch.{PlanWritten, Plan};
 ghost use Rattle.batch.specs.Walking.{Standing, Planning};
 
 // Where a frame ends.
@@ -27,7 +27,7 @@ fn frame_end(b: &[u16], at: usize) -> usize
 // An update gets its number, a read its slot: the nearest earlier update that conflicts, looked for from the read backwards, or 0.
 fn write(b: &[u16], n: usize, out: &mut [u16])
     requires { ⌜ Planning (now b) n (length (now out)) ⌝ }
-    ensures { λ _. ⌜ Written (batchOf (now (b .entry))) (now (out .entry)) (now (out .exit)) ⌝ }
+    ensures { λ _. ⌜ PlanWritten (batchOf (now (b .entry))) (now (out .entry)) (now (out .exit)) ⌝ }
 {
     let mut places = [0; FRAME_LIMIT];
     let mut updates = 0;

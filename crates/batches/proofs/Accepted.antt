@@ -10,12 +10,12 @@ use lib.ListN.{length, getD, drop, length-take, length-drop, List·getD-eq-defau
 use lib.Seq.{getD-take, getD-drop}
 use borrow.Author.Tests.{ltb-true}
 use Rattle.tables.specs.Limits.{stepLimit, treeLimit, wordLimit}
-use Rattle.tables.specs.Words.{steps}
+use Rattle.tables.specs.Words.{steps, Bits16}
 use Rattle.tables.specs.Checks.{patternCheck, treeCheck}
 use Rattle.tables.specs.declared.refusal.Checked.{Checked}
 use Rattle.tables.specs.declared.refusal.Checked.the-variants.{Fine, Refused}
 use Rattle.tables.proofs.Accepted.{held, then-first, then-second}
-use Rattle.tables.proofs.Soundness.{Words, accepted-pattern, accepted-tree}
+use Rattle.tables.proofs.Soundness.{accepted-pattern, accepted-tree}
 use Rattle.order.specs.Fitting.{Fit, FitFrame}
 use Rattle.parts.specs.Parts.{part, count, placed, countCheck, stepsCheck, nodesCheck}
 use Rattle.frames.specs.Frames.{kind, treeAt, restCheck, frameCheck}
@@ -28,7 +28,7 @@ placed-fine n Fine e = refl
 placed-fine n (Refused r) e = let z : _≡_ {A = ℕ} 0 1 = cc in absurd (omega arith)
 
 -- the words of a part are words of the batch, or 0
-pub part-words : (b : List ℕ) (from n : ℕ) → Words b → Words (part b from n)
+pub part-words : (b : List ℕ) (from n : ℕ) → Bits16 b → Bits16 (part b from n)
 part-words b from n words i = go (decLt i n)
   where
     go : Dec (i < n) → getD (part b from n) i 0 < wordLimit
@@ -66,7 +66,7 @@ module _ (b : List ℕ) (n at : ℕ) (e : frameCheck b n at ≡ Fine) where
     unfolding nodesCheck
     tree-fine = placed-fine n _ (then-second (countCheck b n (treeAt at (count b (at + 1))) treeLimit) _ (insert-nodes b n at e is))
 
-  module _ (words : Words b) where
+  module _ (words : Bits16 b) where
     fit-pattern : Fit (patternOf b at)
     fit-pattern = record {
       pattern = accepted-pattern (patternOf b at) stepLimit 6 steps-fine;

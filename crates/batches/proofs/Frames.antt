@@ -11,11 +11,12 @@ use Rattle.tables.specs.Limits.{batchLimit}
 use Rattle.tables.specs.Checks.{_then_, test, refuse}
 use Rattle.tables.specs.declared.refusal.Checked.the-variants.{Fine}
 use Rattle.tables.proofs.Accepted.{then-first, then-second}
-use Rattle.tables.proofs.Soundness.{Words}
+use Rattle.tables.specs.Words.{Bits16}
 use Rattle.parts.specs.Parts.{count}
 use Rattle.frames.specs.Frames.{kind, treeAt, endOf, frameCheck}
 use Rattle.conflict.specs.Conflict.{Update}
-use Rattle.order.specs.Model.{Frame, At, here, there, Fits}
+use Rattle.order.specs.Model.{Fits}
+use Rattle.order.specs.Frames.{Frame, At, here, there}
 use Rattle.order.specs.Fitting.{FitFrame}
 use Rattle.order.proofs.Places.{at-below}
 use Rattle.batches.specs.Batches.{meaning, framesFrom, batchOf, checkFrom, batchCheck}
@@ -102,5 +103,5 @@ unfolding batchOf
 accepted-each b one e = fits-from b one 0 0 (length b) (accepted-frames b e)
 
 -- each frame of an accepted batch is fit
-pub accepted-fits : (b : List ℕ) → Words b → batchCheck b ≡ Fine → Fits FitFrame (batchOf b)
+pub accepted-fits : (b : List ℕ) → Bits16 b → batchCheck b ≡ Fine → Fits FitFrame (batchOf b)
 accepted-fits b words e = accepted-each b (λ n at fine. frame-fit b n at fine words) e

@@ -13,7 +13,7 @@ use Rattle.tables.specs.declared.refusal.Refusal.{Refusal}
 use Rattle.tables.specs.declared.refusal.Checked.{Checked}
 use Rattle.tables.specs.declared.refusal.Checked.the-variants as checked
 use Rattle.frames.specs.Frames.{endOf, frameCheck, frameOf, answered, frameAt}
-use Rattle.outcomes.specs.declared.frames.Frame.{Frame}
+use Rattle.outcomes.specs.declared.frames.Extent.{Extent}
 use Rattle.outcomes.specs.declared.frames.Framed.{Framed}
 use Rattle.outcomes.specs.declared.frames.Framed.the-variants as framed
 use Rattle.batches.specs.Batches.{framesFrom, batchOf, checkFrom, batchCheck, planCheck, countedOf}
@@ -22,22 +22,22 @@ use Rattle.batches.specs.declared.Counted.the-variants.{Refused, Frames}
 use Rattle.batches.proofs.Frames.{frames-on, frames-off, check-on, check-off}
 
 -- a frame that is found meets no refusal, and is the one that stands there
-found-fine : (c : Checked) (g : Frame) {f : Frame} → answered c g ≡ framed.Found f → (c ≡ checked.Fine) × (f ≡ g)
+found-fine : (c : Checked) (g : Extent) {f : Extent} → answered c g ≡ framed.Found f → (c ≡ checked.Fine) × (f ≡ g)
 found-fine checked.Fine g e = (refl, cc)
 found-fine (checked.Refused r) g e = let z : _≡_ {A = ℕ} 0 1 = cc in absurd (omega arith)
 
-refused-why : (c : Checked) (g : Frame) {r : Refusal} → answered c g ≡ framed.Refused r → c ≡ checked.Refused r
+refused-why : (c : Checked) (g : Extent) {r : Refusal} → answered c g ≡ framed.Refused r → c ≡ checked.Refused r
 refused-why checked.Fine g e = let z : _≡_ {A = ℕ} 0 1 = cc in absurd (omega arith)
 refused-why (checked.Refused w) g e = cc
 
 module _ (b : List ℕ) (n at : ℕ) {got : Framed} (e : got ≡ frameAt b n at) where
-  pub frame-fine : {f : Frame} → got ≡ framed.Found f → frameCheck b n at ≡ checked.Fine
+  pub frame-fine : {f : Extent} → got ≡ framed.Found f → frameCheck b n at ≡ checked.Fine
   unfolding frameAt
   frame-fine {f} told = found-fine (frameCheck b n at) (frameOf b at) (sym e ∙ told) .0
 
-  pub frame-next : {f : Frame} → got ≡ framed.Found f → f .next ≡ endOf b at
+  pub frame-next : {f : Extent} → got ≡ framed.Found f → f .next ≡ endOf b at
   unfolding frameAt frameOf
-  frame-next {f} told = ap (λ (g : Frame). g .next) (found-fine (frameCheck b n at) (frameOf b at) (sym e ∙ told) .1)
+  frame-next {f} told = ap (λ (g : Extent). g .next) (found-fine (frameCheck b n at) (frameOf b at) (sym e ∙ told) .1)
 
   pub frame-why : {r : Refusal} → got ≡ framed.Refused r → frameCheck b n at ≡ checked.Refused r
   unfolding frameAt
@@ -53,7 +53,7 @@ module _ (b : List ℕ) where
   count-start = rw zero-add
 
   module _ (n at : ℕ) where
-    pub count-on : at < length b → {got : Framed} → got ≡ frameAt b n at → {f : Frame} → got ≡ framed.Found f → countedFrom b n at ≡ countedFrom b (n + 1) (f .next)
+    pub count-on : at < length b → {got : Framed} → got ≡ frameAt b n at → {f : Extent} → got ≡ framed.Found f → countedFrom b n at ≡ countedFrom b (n + 1) (f .next)
     unfolding countedFrom
     count-on h e told =
         let rest = length (framesFrom b (endOf b at) (length b)) in

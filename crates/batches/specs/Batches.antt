@@ -9,7 +9,7 @@ use Rattle.tables.specs.Checks.{_then_, test, refuse, outputCheck}
 use Rattle.tables.specs.declared.refusal.Checked.{Checked}
 use Rattle.tables.specs.declared.refusal.Checked.the-variants as checked
 use Rattle.conflict.specs.Conflict.{Update, delete, insert}
-use Rattle.order.specs.Model.{Frame, read, update}
+use Rattle.order.specs.Frames.{Frame, read, update}
 use Rattle.parts.specs.Parts.{part, count}
 use Rattle.frames.specs.Frames.{kind, treeAt, endOf, frameCheck}
 use Rattle.batches.specs.declared.Counted.{Counted}

@@ -9,7 +9,8 @@ use Rattle.tables.specs.Checks.{patternCheck, treeCheck}
 use Rattle.tables.specs.declared.refusal.Checked.the-variants.{Fine}
 use Rattle.tables.proofs.Elsewhere.{pattern-elsewhere, tree-elsewhere}
 use Rattle.conflict.specs.Conflict.{Update, delete, insert}
-use Rattle.order.specs.Model.{Frame, read, update, Fits}
+use Rattle.order.specs.Model.{Fits}
+use Rattle.order.specs.Frames.{Frame, read, update}
 use Rattle.frames.specs.Frames.{kind, frameCheck}
 use Rattle.frames.proofs.Accepted.{frame-kind}
 use Rattle.batches.specs.Batches.{patternOf, treeOf, updateOf, meaning, batchOf, batchCheck}

@@ -29,8 +29,8 @@ use Rattle.updating.specs.Updating.{deleteCheck, insertCheck, deleteAnswer, ins
 use Rattle.outcomes.specs.declared.updates.Deleted.{Deleted}
 use Rattle.outcomes.specs.declared.updates.Inserted.{Inserted}
 use Rattle.conflict.specs.Conflict.{Update, delete, insert}
-use Rattle.order.specs.Model.{Frame, read, update}
-use Rattle.order.specs.Order.{act}
+use Rattle.order.specs.Frames.{Frame, read, update}
+use Rattle.order.specs.Model.{act}
 use Rattle.calls.specs.Calls.{Reply, reading, deleting, inserting, usedAfter, Call, reads, deletes, inserts, refusalOf, NoRoom, Works, Says}
 use Rattle.calls.specs.Running.{running}
 use Rattle.calls.proofs.Accepting.{Accepted}

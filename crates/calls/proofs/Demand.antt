@@ -10,9 +10,9 @@ use Rattle.selection.proofs.Inserting.{stored-sound}
 use Rattle.conflict.specs.Conflict.{Update, delete, insert, Conflict}
 use Rattle.conflict.proofs.Deletes.{unchanged-delete}
 use Rattle.conflict.proofs.Inserts.{unchanged-insert}
-use Rattle.order.specs.Model.{Frame, Fits}
-use Rattle.order.specs.Order.{Order, Same}
-use Rattle.order.specs.Fitting.{Fit, FitUpdate, FitFrame, Decides}
+use Rattle.order.specs.Model.{Fits, Order, Same}
+use Rattle.order.specs.Frames.{Frame}
+use Rattle.order.specs.Fitting.{Fit, FitUpdate, FitFrame, DecidedBy}
 use Rattle.order.proofs.Walking.{Lawful}
 use Rattle.order.proofs.Theorem.{order-same}
 use Rattle.calls.specs.Running.{updated, running}
@@ -31,7 +31,7 @@ updated-unchanged r (insert p x) reads fit clear {d} sound v =
 
 -- a relation under which every conflict falls, and a test that decides it
 module _ {Related : List ℕ → Update → Type 0} (wider : (r : List ℕ) (u : Update) → Conflict r u → Related r u)
-    {test : List ℕ → Update → Bool} (decides : Decides Related test) where
+    {test : List ℕ → Update → Bool} (decides : DecidedBy Related test) where
   -- the theorem's two assumptions hold of documents
   running-lawful : Lawful running test FitFrame Sound
   running-lawful = record {

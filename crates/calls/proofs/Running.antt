@@ -9,8 +9,9 @@ use lib.ListN.{length}
 use Rattle.tables.specs.Documents.{Doc}
 use Rattle.selection.specs.Operations.{fits}
 use Rattle.conflict.specs.Conflict.{Update, insert}
-use Rattle.order.specs.Model.{Frame, read, update, At, here, there, Fits}
-use Rattle.order.specs.Order.{Stands, act, ran, lastDoc, met}
+use Rattle.order.specs.Model.{Fits, act, ran, lastDoc, met}
+use Rattle.order.specs.Frames.{Frame, read, update, At, here, there}
+use Rattle.order.specs.Order.{Stands}
 use Rattle.order.specs.Fitting.{FitFrame}
 use Rattle.order.proofs.Places.{at-one, at-below, by-kind}
 use Rattle.order.proofs.Stages.{ran-at, met-cases}

@@ -10,9 +10,10 @@ use Rattle.tables.specs.declared.refusal.Checked.{Checked}
 use Rattle.selection.specs.Embeddings.{Selects}
 use Rattle.selection.proofs.Selecting.{selecting}
 use Rattle.conflict.specs.Conflict.{Update, Conflict}
-use Rattle.order.specs.Model.{Frame, read, update, At, Fits}
-use Rattle.order.specs.Order.{Order, own, met, Same}
-use Rattle.order.specs.Fitting.{FitFrame, Decides}
+use Rattle.order.specs.Model.{Fits, Order, met, Same}
+use Rattle.order.specs.Frames.{Frame, read, update, At}
+use Rattle.order.specs.Order.{own}
+use Rattle.order.specs.Fitting.{FitFrame, DecidedBy}
 use Rattle.order.proofs.Own.{own-order}
 use Rattle.calls.specs.Calls.{Reply, reading, Call, Called, called, Run, NoRoom, Says, SameRuns}
 use Rattle.calls.specs.Running.{running}
@@ -26,7 +27,7 @@ same-answer : {x y : Reply} → x ≡ y → NoRoom x ↔ NoRoom y
 same-answer e = (rw e (λ h. h), rw e (λ h. h))
 
 module _ {Related : List ℕ → Update → Type 0} (wider : (r : List ℕ) (u : Update) → Conflict r u → Related r u)
-    {test : List ℕ → Update → Bool} (decides : Decides Related test)
+    {test : List ℕ → Update → Bool} (decides : DecidedBy Related test)
     {b : List (Frame (List ℕ) Update)} (fits : Fits FitFrame b) (callable : Fits Callable b) {d : Doc} (accepted : Accepted d)
     {o : List ℕ} (order : Order test b o)
     {one other : List Called} {last end : Doc} (run : Run b o d one last) (runs : Run b (own b) d other end) where

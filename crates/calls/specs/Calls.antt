@@ -17,7 +17,7 @@ use Rattle.outcomes.specs.declared.updates.Deleted.the-variants as deleted
 use Rattle.outcomes.specs.declared.updates.Inserted.{Inserted}
 use Rattle.outcomes.specs.declared.updates.Inserted.the-variants as inserted
 use Rattle.conflict.specs.Conflict.{Update, delete, insert}
-use Rattle.order.specs.Model.{Frame, read, update, At}
+use Rattle.order.specs.Frames.{Frame, read, update, At}
 
 -- what a call answered; of a read, also the row that it left
 pub data Reply : Type 0 where

@@ -3,7 +3,7 @@ use Prim.Native.Nat.{ℕ, suc, _<_, _≤_}
 use mathlib.Core.Path.{_≡_}
 use mathlib.Core.List.{List}
 use mathlib.Core.Logic.{_⊎_}
-use Rattle.tables.specs.Words.{nodes, parent}
+use Rattle.tables.specs.Words.{nodes, parent, Bits16}
 use Rattle.tables.specs.Documents.{Doc, bare, Sound}
 use Rattle.selection.specs.Embeddings.{Below, Selects}
 use Rattle.selection.specs.Operations.{deleted, inserted}
@@ -16,6 +16,11 @@ pub data Update : Type 0 where
 abbrev pub pattern : Update → List ℕ
 pattern (delete p) = p
 pattern (insert p x) = p
+
+-- every word of an update has 16 bits
+abbrev pub UpdateBits : Update → Type 0
+UpdateBits (delete p) = Bits16 p
+UpdateBits (insert p x) = Bits16 p × Bits16 x
 
 -- the document after the update
 abbrev pub after : Update → Doc → Doc

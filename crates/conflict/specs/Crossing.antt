@@ -1,4 +1,4 @@
--- A run over a way that leads through an inserted copy into the tree above it: the state in which it leaves the copy.
+-- Inside: a run over a way that leads through an inserted copy into the tree above it: the state in which it leaves the copy.
 use Prim.Native.Nat.{ℕ, zero, suc, pred}
 use mathlib.Core.Bool.{Bool, true, false, _&&_, _||_, cond}
 use mathlib.Core.List.{List, [], _∷_, _++_}

@@ -1,4 +1,4 @@
--- The shortest way on which a read in state i and an update in state j both run, nearest label first, and how many labels it has;
+-- Inside: the shortest way on which a read in state i and an update in state j both run, nearest label first, and how many labels it has;
 -- [] and 0 where there is none. The read's steps have the labels a and its states may stay where s says, the update's b and u.
 use Prim.Native.Nat.{ℕ, zero, suc, _+_}
 use mathlib.Core.Bool.{Bool, false, _||_, cond}

@@ -10,9 +10,8 @@ use lib.ListN.{length, getD, take, drop, replicate, length-take, length-drop, le
 use lib.Seq.{drop-drop, getD-drop, ext-getD}
 use borrow.Author.Tests.{le-leb, lt-leb, leb-true, not-true, not-false}
 use Rattle.tables.specs.Limits.{wordLimit}
-use Rattle.tables.specs.Words.{nodes}
+use Rattle.tables.specs.Words.{nodes, Bits16}
 use Rattle.tables.specs.Documents.{doc, capacity}
-use Rattle.tables.proofs.Soundness.{Words}
 use Rattle.selection.specs.Lists.{tab, front}
 use Rattle.selection.specs.Operations.{copyWords, graft}
 use Rattle.selection.proofs.Lists.{length-tab, getD-tab, front-take, rest-whole, rest-none}
@@ -39,7 +38,7 @@ zeros n =
     (λ i h. let b : i < n = rw length-tab at h in getD-tab (λ _. 0) n i b ∙ sym (getD-replicate n i 0 0 b))
 
 -- the words before and behind a copy are words
-module _ (t : List ℕ) (words : Words t) (n : ℕ) where
+module _ (t : List ℕ) (words : Bits16 t) (n : ℕ) where
   pub front-held : held (front n t) ≡ front n t
   unfolding front
   front-held = held-same (front n t) (λ i. go i (decLt i n))
@@ -67,7 +66,7 @@ module _ (x : List ℕ) (q at : ℕ) (t m : List ℕ) {c : Bool} (is : c ≡ leb
     free-copyable = record { long = rw (length-take, length-drop) (omega (arith, room)); limit = omega (arith, room) }
 
     -- with its words and marks in the place of the free ones the tables are those with the copy
-    pub graft-back : Words t → {words marks : List ℕ} →
+    pub graft-back : Bits16 t → {words marks : List ℕ} →
         words ≡ held (copyWords x q at (nodes x)) ++ drop (2 * nodes x) (take (length t - 2 * at) (drop (2 * at) t)) →
         marks ≡ tab (λ _. 0) (nodes x) ++ drop (nodes x) (take (length m - at) (drop at m)) →
         doc (take (2 * at) t ++ (words ++ drop (length t - 2 * at) (drop (2 * at) t))) (take at m ++ (marks ++ drop (length m - at) (drop at m))) (at + nodes x)

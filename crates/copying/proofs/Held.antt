@@ -5,7 +5,7 @@ use mathlib.Core.List.{List, [], _∷_, _++_, map-append}
 use native.Mathlib.Omega.{arith}
 use lib.ListN.{length, length-map}
 use Rattle.tables.specs.Limits.{wordLimit}
-use Rattle.tables.proofs.Soundness.{Words}
+use Rattle.tables.specs.Words.{Bits16}
 use Rattle.copying.specs.Copying.{held}
 
 pub held-word : (w : ℕ) → w < wordLimit → w % wordLimit ≡ w
@@ -19,12 +19,12 @@ pub length-held : (l : List ℕ) → length (held l) ≡ length l
 unfolding held
 length-held l = length-map l (λ w. w % wordLimit)
 
-pub held-same : (l : List ℕ) → Words l → held l ≡ l
+pub held-same : (l : List ℕ) → Bits16 l → held l ≡ l
 unfolding held
 held-same [] words = refl
 held-same (w ∷ l) words = rw (held-word w (words 0), held-same l (λ i. words (suc i)))
 
-pub held-words : (l : List ℕ) → Words (held l)
+pub held-words : (l : List ℕ) → Bits16 (held l)
 unfolding held
 held-words [] i = omega arith
 held-words (w ∷ l) zero = omega arith

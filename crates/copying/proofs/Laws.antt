@@ -7,9 +7,8 @@ use native.Mathlib.Omega.{arith}
 use lib.ListN.{length, drop}
 use borrow.Author.Tests.{leb-true}
 use Rattle.tables.specs.Limits.{wordLimit}
-use Rattle.tables.specs.Words.{nodes, tag}
+use Rattle.tables.specs.Words.{nodes, tag, Bits16}
 use Rattle.tables.specs.Documents.{Doc, doc, capacity}
-use Rattle.tables.proofs.Soundness.{Words}
 use Rattle.selection.specs.Lists.{front}
 use Rattle.selection.specs.Operations.{copiedParent, copyWords, graft}
 use Rattle.selection.proofs.Grafting.{graft-rows-length, graft-marks-length}
@@ -38,8 +37,8 @@ module _ (x : List ℕ) (q : ℕ) (d : Doc) where
   pub copied-marks : length (copied x q d .marks) ≡ length (d .marks)
   copied-marks = by-fit (λ c. length (c .marks) ≡ length (d .marks)) (λ fits. graft-marks-length x q d (omega (arith, room fits))) refl
 
-  pub copied-words : Words (d .rows) → Words (copied x q d .rows)
-  copied-words words = by-fit (λ c. Words (c .rows)) (λ fits. held-words (graft x q d .rows)) words
+  pub copied-words : Bits16 (d .rows) → Bits16 (copied x q d .rows)
+  copied-words words = by-fit (λ c. Bits16 (c .rows)) (λ fits. held-words (graft x q d .rows)) words
 
 -- where every word of the copy is one, the copy is the graft
 module _ (x : List ℕ) (q : ℕ) (d : Doc) (words : (k : ℕ) → k < nodes x → (copiedParent x q (d .used) k < wordLimit) × (tag x k < wordLimit)) where
@@ -50,7 +49,7 @@ module _ (x : List ℕ) (q : ℕ) (d : Doc) (words : (k : ℕ) → k < nodes x �
       words-more x q (d .used) k (words k h .1)
       ∙ rw (words-held k (omega arith), held-word (copiedParent x q (d .used) k) (words k h .0))
 
-  pub copied-graft : fitting x d ≡ true → Words (d .rows) → copied x q d ≡ graft x q d
+  pub copied-graft : fitting x d ≡ true → Bits16 (d .rows) → copied x q d ≡ graft x q d
   unfolding graft copied
   copied-graft fits word =
       rw (

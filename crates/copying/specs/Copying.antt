@@ -1,4 +1,4 @@
--- One copy of a table x into a document, for every x: its words are those of a graft, as 16 bits hold them. Of a tree they are those of the graft.
+-- Inside: one copy of a table x into a document, for every x: its words are those of a graft, as 16 bits hold them. Of a tree they are those of the graft.
 use Prim.Native.Nat.{ℕ, _+_, _*_, _%_, _≤_}
 use mathlib.Core.Bool.{Bool, cond}
 use mathlib.Core.List.{List, map}

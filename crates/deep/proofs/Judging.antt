@@ -11,7 +11,7 @@ use Rattle.tables.specs.declared.refusal.Checked.{Checked}
 use Rattle.tables.specs.declared.refusal.Checked.the-variants.{Fine, Refused}
 use Rattle.outcomes.specs.declared.verdicts.Deeply.{Deeply}
 use Rattle.outcomes.specs.declared.verdicts.Deeply.the-variants.{No, Yes, Refused as NotDeep}
-use Rattle.ways.specs.Ways.{Written}
+use Rattle.ways.specs.Ways.{WayWritten}
 
 -- the deep verdict of a check and a test
 unfoldable pub deeplyOf : Checked → Bool → Deeply
@@ -28,7 +28,7 @@ module _ {got : Checked} (check : Checked) (e : got ≡ check) where
   deeply-off b told = rw (← e, told)
 
 -- a node conflict, or none and an update point below
-module _ {n : ℕ} (way before after : List ℕ) (touch : Bool) (w : Written way before after n) where
+module _ {n : ℕ} (way before after : List ℕ) (touch : Bool) (w : WayWritten way before after n) where
   pub conflict-deep : 0 < n → true ≡ (ltb 0 (length way) || touch)
   conflict-deep h = rw (← w .count, lt-ltb 0 n h)
 

@@ -8,14 +8,13 @@ use mathlib.Core.Logic.{_↔_, inl, inr, ⊎-elim}
 use lib.Dec.{ltb}
 use lib.ListN.{length}
 use borrow.Author.Tests.{lt-ltb, ltb-true, ltb-false}
-use Rattle.tables.specs.Words.{steps}
+use Rattle.tables.specs.Words.{steps, Bits16}
 use Rattle.tables.specs.Patterns.{Pattern}
 use Rattle.tables.specs.declared.refusal.Checked.{Checked}
 use Rattle.tables.specs.declared.refusal.Checked.the-variants.{Fine, Refused}
 use Rattle.tables.proofs.Accepted.{never}
-use Rattle.tables.proofs.Soundness.{Words}
 use Rattle.selection.specs.Ways.{last}
-use Rattle.conflict.specs.Conflict.{Update, delete, insert, pattern, Touches}
+use Rattle.conflict.specs.Conflict.{Update, UpdateBits, delete, insert, pattern, Touches}
 use Rattle.conflict.specs.Meeting.{fewestOf}
 use Rattle.conflict.specs.Crossing.{chain, deleteWay, insertWay}
 use Rattle.conflict.proofs.Smallest.{smallest}
@@ -25,7 +24,7 @@ use Rattle.outcomes.specs.declared.verdicts.Deeply.the-variants.{No, Yes, Refus
 use Rattle.admission.specs.Order.{deepCheck, deepDeleteCheck, deepInsertCheck}
 use Rattle.admission.proofs.Accepting.{patterns-read, patterns-update, delete-patterns, insert-patterns}
 use Rattle.ways.specs.Ways.{touches}
-use Rattle.ways.proofs.Deciding.{Deciding, delete-deciding, insert-deciding, UpdateWords}
+use Rattle.ways.proofs.Deciding.{Deciding, delete-deciding, insert-deciding}
 use Rattle.deep.specs.Promise.{DeepVerdict}
 use Rattle.deep.specs.Deep.{deleteDeep, insertDeep}
 use Rattle.deep.proofs.Judging.{deeplyOf}
@@ -53,7 +52,7 @@ module _ {r : List ℕ} {u : Update} {way : List ℕ} where
           }
 
 -- the test of the touch
-touch-test : (r : List ℕ) (u : Update) → Words r → Words (pattern u) → Pattern r → Pattern (pattern u) → Touches r u ↔ (touches r (pattern u) ≡ true)
+touch-test : (r : List ℕ) (u : Update) → Bits16 r → Bits16 (pattern u) → Pattern r → Pattern (pattern u) → Touches r u ↔ (touches r (pattern u) ≡ true)
 unfolding touches
 touch-test r u names others read update =
     let p : List ℕ = pattern u in
@@ -66,7 +65,7 @@ touch-test r u names others read update =
     )
 
 -- a delete: every word has 16 bits
-module _ (r p : List ℕ) (names : Words r) (others : Words p) where
+module _ (r p : List ℕ) (names : Bits16 r) (others : Bits16 p) where
   pub deep-delete-promise : {answer : Deeply} → answer ≡ deeplyOf (deepDeleteCheck r p) (deleteDeep r p) → DeepVerdict r (delete p) answer
   unfolding deleteDeep
   deep-delete-promise says =
@@ -77,7 +76,7 @@ module _ (r p : List ℕ) (names : Words r) (others : Words p) where
       says
 
 -- an insert
-module _ (r p x : List ℕ) (names : Words r) (others : Words p) (tags : Words x) where
+module _ (r p x : List ℕ) (names : Bits16 r) (others : Bits16 p) (tags : Bits16 x) where
   pub deep-insert-promise : {answer : Deeply} → answer ≡ deeplyOf (deepInsertCheck r p x) (insertDeep r p x) → DeepVerdict r (insert p x) answer
   unfolding insertDeep
   deep-insert-promise says =
@@ -100,7 +99,7 @@ deep-one r u Yes No f g = absurd (g .none (f .some))
 deep-one r u Yes Yes f g = refl
 
 -- The promise can be met for every read and update of words.
-pub deep-met : (r : List ℕ) (u : Update) → Words r → UpdateWords u → (answer : Deeply) × DeepVerdict r u answer
+pub deep-met : (r : List ℕ) (u : Update) → Bits16 r → UpdateBits u → (answer : Deeply) × DeepVerdict r u answer
 deep-met r (delete p) names others = (deeplyOf (deepDeleteCheck r p) (deleteDeep r p), deep-delete-promise r p names others refl)
 deep-met r (insert p x) names others =
     (deeplyOf (deepInsertCheck r p x) (insertDeep r p x), deep-insert-promise r p x names (others .0) (others .1) refl)

@@ -1,4 +1,4 @@
--- What the private functions answer: the tests of the deep verdict.
+-- Inside: what the private functions answer: the tests of the deep verdict.
 use Prim.Native.Nat.{ℕ}
 use mathlib.Core.Bool.{Bool, _||_}
 use mathlib.Core.List.{List}

@@ -9,7 +9,8 @@ use Rattle.tables.specs.Documents.{Doc}
 use Rattle.tables.specs.declared.refusal.Refusal.{Refusal}
 use Rattle.tables.specs.declared.refusal.Checked.{Checked}
 use Rattle.tables.specs.declared.refusal.Checked.the-variants.{Fine, Refused}
-use Rattle.tables.proofs.Soundness.{Words, used-facts, accepted-document}
+use Rattle.tables.specs.Words.{Bits16}
+use Rattle.tables.proofs.Soundness.{used-facts, accepted-document}
 use Rattle.outcomes.specs.declared.updates.Deleted.the-variants.{Removed, Refused as NotDeleted}
 use Rattle.updating.specs.Updating.{deleteCheck, Delete}
 use Rattle.updating.specs.Asking.{Asked}
@@ -23,7 +24,7 @@ module _ (p : List ℕ) (d : Doc) {before after : List ℕ} {got : Checked} (ask
     fine : deleteCheck p d ≡ Fine
     fine = sym (asked .answered) ∙ told
 
-    pub strikable : Words (d .rows) → usedLimit ≤ length before → Strikable d after
+    pub strikable : Bits16 (d .rows) → usedLimit ≤ length before → Strikable d after
     strikable words long =
         let used = used-facts d (delete-document p d fine) in
         record {

@@ -1,2 +1,2 @@
--- What the inside of delete holds.
+-- What the inside of delete holds: it need not be believed.
 pub mod Striking

@@ -1,4 +1,4 @@
--- What striking a document asks and gives.
+-- Inside: what striking a document asks and gives.
 use Prim.Native.Nat.{ℕ, _≤_}
 use mathlib.Core.Path.{_≡_}
 use mathlib.Core.Bool.{_&&_, _||_, cond}

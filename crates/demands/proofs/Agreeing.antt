@@ -4,12 +4,12 @@ use mathlib.Core.Path.{_≡_, refl, sym}
 use mathlib.Core.List.{List}
 use lib.ListN.{getD}
 use Rattle.tables.specs.Limits.{stepLimit, plainNodes}
-use Rattle.tables.specs.Words.{nodes}
+use Rattle.tables.specs.Words.{nodes, Bits16}
 use Rattle.tables.specs.Documents.{doc, bare}
 use Rattle.tables.specs.Checks.{documentCheck, patternCheck, treeCheck}
 use Rattle.tables.specs.declared.refusal.Checked.the-variants.{Fine}
 use Rattle.tables.proofs.Accepted.{then-first, then-second}
-use Rattle.tables.proofs.Soundness.{Words, accepted-pattern, accepted-tree, accepted-document}
+use Rattle.tables.proofs.Soundness.{accepted-pattern, accepted-tree, accepted-document}
 use Rattle.selection.proofs.Presence.{is-present}
 use Rattle.selection.proofs.Rows.{same-bit}
 use Rattle.selection.proofs.Selecting.{selects-by-labels}
@@ -19,7 +19,7 @@ use Rattle.readable.specs.Readable.{readCheck}
 use Rattle.reading.specs.Reading.{Read}
 use Rattle.reading.proofs.Laws.{read-selects}
 
-pub readings-agree : (p t marks : List ℕ) → Words t → ((v : ℕ) → v < nodes t → getD marks v 0 ≡ 0) → (table : ℕ) (before row before′ plain : List ℕ) →
+pub readings-agree : (p t marks : List ℕ) → Bits16 t → ((v : ℕ) → v < nodes t → getD marks v 0 ≡ 0) → (table : ℕ) (before row before′ plain : List ℕ) →
     Read p table (doc t marks (nodes t)) before row Fine → PlainRead p t before′ plain Fine → (v : ℕ) → v < nodes t → getD row v 0 ≡ getD plain v 0
 unfolding readCheck plainCheck
 readings-agree p t marks words clear table before row before′ plain f g v h =

@@ -7,6 +7,7 @@ use native.Mathlib.Omega.{arith}
 use lib.ListN.{length, take, drop}
 use lib.Seq.{drop-at}
 use Rattle.tables.specs.Limits.{stepLimit, treeLimit}
+use Rattle.tables.specs.Words.{Bits16}
 use Rattle.tables.specs.Patterns.{Pattern}
 use Rattle.tables.specs.Documents.{Doc, doc}
 use Rattle.tables.specs.declared.refusal.Checked.the-variants.{Fine}
@@ -14,13 +15,14 @@ use Rattle.tables.proofs.Accepted.{never, then-first}
 use Rattle.tables.proofs.Soundness.{accepted-pattern, accepted-document, accepted-tree}
 use Rattle.reading.proofs.Laws.{read-selects}
 use Rattle.selection.specs.Operations.{copies}
+use Rattle.selection.proofs.Selecting.{selecting}
 use Rattle.updating.specs.Updating.{deleteCheck, insertCheck, Delete, Insert}
 use Rattle.outcomes.specs.declared.updates.Deleted.the-variants as deleted
 use Rattle.outcomes.specs.declared.updates.Inserted.the-variants as inserted
 use Rattle.updating.proofs.Accepted.{delete-document, delete-pattern, insert-document, insert-pattern, insert-tree}
 use Rattle.updating.proofs.Deletes.{delete-fine, delete-doc, delete-count, delete-behind, delete-length}
 use Rattle.updating.proofs.Inserts.{insert-fine, insert-number, insert-doc, insert-words-behind, insert-marks-behind, insert-rows-length, insert-marks-length}
-use Rattle.conflict.specs.Conflict.{Update, delete, insert, Conflict, SmallestWitness, Chain}
+use Rattle.conflict.specs.Conflict.{Update, UpdateBits, delete, insert, Conflict, SmallestWitness, Chain}
 use Rattle.conflict.proofs.Chained.{decided-chain}
 use Rattle.admission.specs.Order.{verdictCheck, deepCheck}
 use Rattle.ways.proofs.Deciding.{delete-deciding, insert-deciding}
@@ -28,7 +30,8 @@ use Rattle.verdict.specs.Promise.{NodeVerdict, witnessNodes}
 use Rattle.outcomes.specs.declared.verdicts.Verdict.{Verdict}
 use Rattle.outcomes.specs.declared.verdicts.Verdict.the-variants as verdict
 use Rattle.marked.proofs.Marked.{marked}
-use Rattle.order.specs.Order.{Order, own}
+use Rattle.order.specs.Order.{own}
+use Rattle.order.specs.Model.{Order}
 use Rattle.order.proofs.Own.{own-order}
 use Rattle.order.proofs.Deciding.{conflicting, conflicting-decides}
 use Rattle.batches.specs.Batches.{batchOf, batchCheck, planCheck}
@@ -44,7 +47,7 @@ use Rattle.walking.proofs.Laws.{refused-stays, over-stays}
 use Rattle.digits.specs.Digits.{wordsOf, lineOf}
 use Rattle.digits.proofs.Returning.{length-wordsOf, length-lineOf}
 use Rattle.printer.proofs.Settled.{printed-one}
-use Rattle.demands.specs.Demands.{Words, UpdateWords, DemandOne, DemandTwo, Keeps, Start, DemandThree, Besides}
+use Rattle.demands.specs.Demands.{DemandOne, DemandTwo, Keeps, Start, DemandThree, Besides}
 use Rattle.demands.proofs.Thirteen.{stops}
 use Rattle.demands.proofs.Orders as orders
 use Rattle.demands.proofs.Updates.{deleted-by, inserted-by}
@@ -79,7 +82,7 @@ exactly r u before out (verdict.Refused why) h fine = never (h .given) fine
 exactly r u before out verdict.Clear h fine = ((λ l. absurd (omega arith)), (λ c. absurd (h .none c)))
 exactly r u before out (verdict.Conflict n) h fine = ((λ l. record { tree = take (2 * n) out; shows = h .witness }), (λ c. h .some))
 
-chained : (r : List ℕ) (u : Update) → Words r → UpdateWords u → deepCheck r u ≡ Fine → (t : List ℕ) → SmallestWitness r u t → Chain t
+chained : (r : List ℕ) (u : Update) → Bits16 r → UpdateBits u → deepCheck r u ≡ Fine → (t : List ℕ) → SmallestWitness r u t → Chain t
 chained r (delete p) names others fine t = decided-chain (delete-deciding r p names others fine .decides)
 chained r (insert p x) names others fine t = decided-chain (insert-deciding r p x names (others .0) (others .1) fine .decides)
 
@@ -92,6 +95,7 @@ demand-two =
       fewest = λ r u before out n h. h .fewest;
       bound = λ r u before out n h. h .bound;
       chain = chained;
+      selection = λ p d pattern sound. selecting pattern sound;
       deletes = λ p d pattern sound. deleted-by p d pattern sound;
       inserts = λ p x d pattern tree sound. (copies p d, inserted-by p x d pattern tree sound);
       sound = λ d words fine. accepted-document d fine words;

@@ -7,14 +7,15 @@ use native.Mathlib.Omega.{arith}
 use lib.ListN.{length, getD}
 use Rattle.tables.specs.Documents.{doc}
 use Rattle.tables.specs.Checks.{patternCheck, sizeCheck, each, axisCheck, axisRight, nodeCheck, parentRight, usedRight, usedCheck, markRight, markCheck, documentCheck, outputCheck}
+use Rattle.tables.specs.Words.{Bits16}
 use Rattle.tables.specs.declared.refusal.Checked.the-variants.{Fine}
 use Rattle.tables.proofs.Accepted.{then-first}
 use Rattle.marked.proofs.Marked.{small, words-of}
 use Rattle.conflict.specs.Conflict.{Update, delete}
 use Rattle.conflict.specs.Meeting.{agree, landing, shared, sooner, shorter, longer, meeting, meetingOf}
 use Rattle.conflict.specs.Crossing.{deleteWay}
-use Rattle.order.specs.Model.{Frame, read, update, At, here, there, updatesAt, earlier, number, nearest, slot}
-use Rattle.order.specs.Order.{Order}
+use Rattle.order.specs.Model.{nearest, slot, Order}
+use Rattle.order.specs.Frames.{Frame, read, update, At, here, there, updatesAt, earlier, number}
 use Rattle.order.proofs.Own.{read-first}
 use Rattle.order.proofs.Places.{at-below}
 use Rattle.order.proofs.Deciding.{conflicting}
@@ -24,7 +25,7 @@ use Rattle.batches.specs.Batches.{updateOf, meaning, framesFrom, batchOf, check
 use Rattle.batch.specs.Batch.{SlotIs, WordIs, Plan}
 use Rattle.outcomes.specs.declared.plans.Planned.the-variants as planned
 use Rattle.batch.proofs.Laws.{accepted-slot}
-use Rattle.demands.specs.Demands.{Words, Keeps, Start, example}
+use Rattle.demands.specs.Demands.{Keeps, Start, example}
 use Rattle.demands.proofs.Keeping.{order-keeps}
 
 abbrev deletes : List ℕ
@@ -48,7 +49,7 @@ clear : conflicting reads (delete deletes) ≡ false
 unfolding deleteWay meetingOf meeting shorter longer sooner agree landing shared
 clear = refl
 
-words : Words example
+words : Bits16 example
 unfolding small
 words = words-of example refl
 

@@ -2,17 +2,18 @@
 use Prim.Native.Nat.{ℕ}
 use mathlib.Core.Path.{_≡_, sym, _∙_}
 use mathlib.Core.List.{List}
+use Rattle.tables.specs.Words.{Bits16}
 use Rattle.tables.specs.declared.refusal.Checked.the-variants.{Fine}
 use Rattle.tables.proofs.Accepted.{then-first}
-use Rattle.order.specs.Order.{Order}
+use Rattle.order.specs.Model.{Order}
 use Rattle.order.proofs.Deciding.{conflicting}
 use Rattle.batches.specs.Batches.{batchOf, batchCheck, planCheck}
 use Rattle.batch.specs.Batch.{Plan}
 use Rattle.outcomes.specs.declared.plans.Planned.the-variants as planned
 use Rattle.batch.proofs.Laws.{accepted-slot}
-use Rattle.demands.specs.Demands.{Words, Keeps}
+use Rattle.demands.specs.Demands.{Keeps}
 
-module _ (b before plan : List ℕ) (n : ℕ) (words : Words b) (h : Plan b before plan (planned.Frames n)) where
+module _ (b before plan : List ℕ) (n : ℕ) (words : Bits16 b) (h : Plan b before plan (planned.Frames n)) where
   accepted : batchCheck b ≡ Fine
   unfolding planCheck
   accepted = then-first (batchCheck b) _ (h .0)

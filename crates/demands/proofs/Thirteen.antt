@@ -17,7 +17,7 @@ use Rattle.bare.specs.Bare.{plainCheck}
 use Rattle.readable.specs.Readable.{readCheck}
 use Rattle.updating.specs.Updating as updating
 use Rattle.conflict.specs.Conflict.{Update, delete, insert}
-use Rattle.admission.specs.Order.{roomCheck, patternsCheck, deepDeleteCheck, deepInsertCheck, deleteCheck, insertCheck, deepCheck, verdictCheck}
+use Rattle.admission.specs.Order.{roomCheck, patternsCheck, deepDeleteCheck, deepInsertCheck, deleteVerdictCheck, insertVerdictCheck, deepCheck, verdictCheck}
 use Rattle.batches.specs.Batches.{checkFrom, batchCheck, planCheck}
 use Rattle.lines.specs.Lines.{characterCheck, lineCheck}
 use Rattle.printer.specs.Printer.{takeCheck, Lines, bad, good, stopped}
@@ -105,7 +105,7 @@ unfolding roomCheck
 rooms r p words = search tested
 
 pub verdicts : (r : List ℕ) (u : Update) (words : ℕ) → Thirteen (verdictCheck r u words)
-unfolding deleteCheck insertCheck
+unfolding deleteVerdictCheck insertVerdictCheck
 verdicts r (delete p) words = chained (deepDeleteCheck r p) (roomCheck r p words) (deeps r (delete p)) (rooms r p words)
 verdicts r (insert p x) words = chained (deepInsertCheck r p x) (roomCheck r p words) (deeps r (insert p x)) (rooms r p words)
 

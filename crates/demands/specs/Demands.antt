@@ -9,13 +9,12 @@
 -- Told says that an exported function returns the numbers of an answer that meets such a promise.
 use Prim.Native.Nat.{ℕ, _+_, _*_, _-_, _/_, _<_, _≤_}
 use mathlib.Core.Path.{_≡_}
-use mathlib.Core.Bool.{false}
+use mathlib.Core.Bool.{true, false}
 use mathlib.Core.List.{List, [], _∷_}
 use mathlib.Core.Logic.{_↔_}
 use lib.ListN.{length, getD, take, drop}
-use Rattle.tables.specs.Words.{steps, nodes}
+use Rattle.tables.specs.Words.{steps, nodes, Bits16}
 use Rattle.tables.specs.Patterns.{Pattern}
-use Rattle.tables.specs.Limits.{wordLimit}
 use Rattle.tables.specs.Documents.{Doc, doc, bare, mark, present, Sound}
 use Rattle.tables.specs.declared.refusal.Refusal.{Refusal}
 use Rattle.tables.specs.declared.refusal.Checked.{Checked}
@@ -28,6 +27,7 @@ use Rattle.batch_numbers.specs.Numbers.{ofStepped, ofPlanned, ofParsed, ofSpell
 use Rattle.selection.specs.Lists.{count}
 use Rattle.selection.specs.Embeddings.{Selects}
 use Rattle.selection.specs.Rows.{Row}
+use Rattle.selection.specs.Ways.{selected}
 use Rattle.selection.specs.Operations.{fits}
 use Rattle.bare.specs.Bare.{plainCheck}
 use Rattle.plain.specs.Plain.{PlainRead}
@@ -36,7 +36,7 @@ use Rattle.reading.specs.Reading.{Read}
 use Rattle.updating.specs.Updating.{deleteCheck, insertCheck, Delete, Insert}
 use Rattle.outcomes.specs.declared.updates.Deleted.the-variants as deleted
 use Rattle.outcomes.specs.declared.updates.Inserted.the-variants as inserted
-use Rattle.conflict.specs.Conflict.{Update, delete, insert, pattern, after as after-update, Witness, Conflict, Deep, SmallestWitness, Chain}
+use Rattle.conflict.specs.Conflict.{Update, delete, insert, pattern, after as after-update, UpdateBits, Witness, Conflict, Deep, SmallestWitness, Chain}
 use Rattle.admission.specs.Order.{verdictCheck, deepCheck}
 use Rattle.verdict.specs.Promise.{NodeVerdict, witnessNodes}
 use Rattle.deep.specs.Promise.{DeepVerdict}
@@ -44,7 +44,7 @@ use Rattle.outcomes.specs.declared.verdicts.Verdict.{Verdict}
 use Rattle.outcomes.specs.declared.verdicts.Verdict.the-variants as verdict
 use Rattle.outcomes.specs.declared.verdicts.Deeply.the-variants as deep
 use Rattle.marked.specs.Marked.{Marked}
-use Rattle.order.specs.Model.{Frame, At, read, update, earlier, number}
+use Rattle.order.specs.Frames.{Frame, At, read, update, earlier, number}
 use Rattle.order.specs.Order.{Stands, Before, own}
 use Rattle.calls.specs.Calls.{Reply, Called, called, Run, Has, Runs, NoRoom, Works, SameRuns}
 use Rattle.walking.specs.Walking.{walkCheck, stepAt, placeAfter, numberAfter}
@@ -61,10 +61,6 @@ use Rattle.printer.specs.Printer.{Lines, stopped, PrintedAs}
 use Rattle.outcomes.specs.declared.texts.Printed.{Printed}
 use Rattle.outcomes.specs.declared.texts.Printed.the-variants as printed
 use Rattle.demands.specs.Updates.{DeletedBy, InsertedBy}
-
--- every word of the list has 16 bits, as every word that is lent to a call
-abbrev pub Words : List ℕ → Type 0
-Words t = (i : ℕ) → getD t i 0 < wordLimit
 
 -- one of the thirteen refusals
 pub record Numbered (r : Refusal) : Type 0 where
@@ -107,11 +103,6 @@ pub record DemandOne : Type 0 where
   pub prints-one : (s before one two : List ℕ) (x y : Printed) → PrintedAs s before one x → PrintedAs s before two y → (x ≡ y) × (one ≡ two)
   pub prints-refusal : (s : List ℕ) (line : ℕ) (why : Refusal) → Lines s 0 0 [] [] (stopped line why) → Numbered why
 
--- every word of an update has 16 bits
-abbrev pub UpdateWords : Update → Type 0
-UpdateWords (delete p) = Words p
-UpdateWords (insert p x) = Words p × Words x
-
 -- Demand 2: a verdict that is not refused says yes exactly if some finite document shows a difference, and then writes such a document,
 -- of the fewest nodes possible and never more than the steps of both patterns together less one
 pub record DemandTwo : Type 0 where
@@ -121,15 +112,16 @@ pub record DemandTwo : Type 0 where
   pub fewest : (r : List ℕ) (u : Update) (before after : List ℕ) (n : ℕ) → NodeVerdict r u before after (verdict.Conflict n) → (t : List ℕ) → Witness r u t → n ≤ nodes t
   pub bound : (r : List ℕ) (u : Update) (before after : List ℕ) (n : ℕ) → NodeVerdict r u before after (verdict.Conflict n) → n ≤ steps r + steps (pattern u) - 1
   -- a smallest witness is always a chain
-  pub chain : (r : List ℕ) (u : Update) → Words r → UpdateWords u → deepCheck r u ≡ Fine → (t : List ℕ) → SmallestWitness r u t → Chain t
-  -- what a difference is made of: on every sound document an update does what it should by embeddings
+  pub chain : (r : List ℕ) (u : Update) → Bits16 r → UpdateBits u → deepCheck r u ≡ Fine → (t : List ℕ) → SmallestWitness r u t → Chain t
+  -- what a difference is made of: on every sound document selection is by embeddings, and so is what an update does
+  pub selection : (p : List ℕ) (d : Doc) → Pattern p → Sound d → (v : ℕ) → (selected p d v ≡ true) ↔ Selects p d v
   pub deletes : (p : List ℕ) (d : Doc) → Pattern p → Sound d → DeletedBy p d (after-update (delete p) d)
   pub inserts : (p x : List ℕ) (d : Doc) → Pattern p → Sound (bare x) → Sound d → (n : ℕ) × InsertedBy p x d (after-update (insert p x) d) n
   -- reading and updating a given document follow the same definitions, and a document that meets no refusal is sound
-  pub sound : (d : Doc) → Words (d .rows) → documentCheck d ≡ Fine → Sound d
-  pub reading : (p : List ℕ) (table : ℕ) (d : Doc) (before after : List ℕ) → Words (d .rows) → Read p table d before after Fine → Row (Selects p d) (d .used) before after
-  pub deleting : (p : List ℕ) (d : Doc) (marks : List ℕ) (n : ℕ) → Words (d .rows) → Delete p d (d .marks) marks (deleted.Removed n) → DeletedBy p d (doc (d .rows) marks (d .used))
-  pub inserting : (p x : List ℕ) (d : Doc) (rows marks : List ℕ) (n used : ℕ) → Words (d .rows) → Words x → Insert p x d (d .rows) (d .marks) rows marks (inserted.Copied n used) →
+  pub sound : (d : Doc) → Bits16 (d .rows) → documentCheck d ≡ Fine → Sound d
+  pub reading : (p : List ℕ) (table : ℕ) (d : Doc) (before after : List ℕ) → Bits16 (d .rows) → Read p table d before after Fine → Row (Selects p d) (d .used) before after
+  pub deleting : (p : List ℕ) (d : Doc) (marks : List ℕ) (n : ℕ) → Bits16 (d .rows) → Delete p d (d .marks) marks (deleted.Removed n) → DeletedBy p d (doc (d .rows) marks (d .used))
+  pub inserting : (p x : List ℕ) (d : Doc) (rows marks : List ℕ) (n used : ℕ) → Bits16 (d .rows) → Bits16 x → Insert p x d (d .rows) (d .marks) rows marks (inserted.Copied n used) →
       InsertedBy p x d (doc rows marks used) n
   -- by the very functions of which a conflict speaks; present before equals present after plus the number that a delete tells
   pub same-delete : (p : List ℕ) (d : Doc) (marks : List ℕ) (n : ℕ) → Delete p d (d .marks) marks (deleted.Removed n) → doc (d .rows) marks (d .used) ≡ after-update (delete p) d
@@ -150,9 +142,9 @@ pub record Keeps (plan : List ℕ) (b : List (Frame (List ℕ) Update)) (o : Lis
 
 -- a batch and a document that meet no refusal
 pub record Start (b : List ℕ) (d : Doc) : Type 0 where
-  pub words : Words b
+  pub words : Bits16 b
   pub batch : batchCheck b ≡ Fine
-  pub rows : Words (d .rows)
+  pub rows : Bits16 (d .rows)
   pub document : documentCheck d ≡ Fine
 
 -- an example: delete a/b, then read a/c
@@ -171,7 +163,7 @@ pub record DemandThree : Type 0 where
   pub room : (b : List ℕ) (d : Doc) → Start b d → (o : List ℕ) (calls : List Called) (last : Doc) → Run (batchOf b) o d calls last →
       (i k : ℕ) (e : Doc) (answer : Reply) → At calls i (called k e answer) → (p x : List ℕ) → At (batchOf b) k (update (insert p x)) → NoRoom answer ↔ (fits p x e ≡ false)
   -- there are such orders and runs: the batch's own order keeps its plan, and so does one in which the example's read has moved; in every order of its frames there is a run, with a call for each
-  pub own-keeps : (b before plan : List ℕ) (n : ℕ) → Words b → Plan b before plan (planned.Frames n) → Keeps plan (batchOf b) (own (batchOf b))
+  pub own-keeps : (b before plan : List ℕ) (n : ℕ) → Bits16 b → Plan b before plan (planned.Frames n) → Keeps plan (batchOf b) (own (batchOf b))
   pub start : Start example (doc (0 ∷ 1 ∷ 0 ∷ 2 ∷ []) (0 ∷ 0 ∷ []) 2)
   pub moved : Plan example (0 ∷ 0 ∷ []) (1 ∷ 0 ∷ []) (planned.Frames 2) × Keeps (1 ∷ 0 ∷ []) (batchOf example) (1 ∷ 0 ∷ [])
   pub runs : (b : List (Frame (List ℕ) Update)) (o : List ℕ) (d : Doc) → ((p k : ℕ) → At o p k → k < length b) → Runs b o d
@@ -184,10 +176,10 @@ pub record Besides : Type 0 where
   pub deep-no : (r : List ℕ) (u : Update) → DeepVerdict r u deep.No → Deep r u → ⊥
   -- an update's plan word is its number among the updates, from 1; batches that agree on a read and the updates before it give it the same slot
   pub numbers : (b before plan : List ℕ) (n k : ℕ) (u : Update) → Plan b before plan (planned.Frames n) → At (batchOf b) k (update u) → getD plan k 0 ≡ number (batchOf b) k
-  pub same-slot : (b c : List ℕ) → Words b → Words c → batchCheck b ≡ Fine → batchCheck c ≡ Fine → (k l : ℕ) (r : List ℕ) → At (batchOf b) k (read r) → At (batchOf c) l (read r) →
+  pub same-slot : (b c : List ℕ) → Bits16 b → Bits16 c → batchCheck b ≡ Fine → batchCheck c ≡ Fine → (k l : ℕ) (r : List ℕ) → At (batchOf b) k (read r) → At (batchOf c) l (read r) →
       earlier (batchOf b) k ≡ earlier (batchOf c) l → (v w : ℕ) → SlotIs (batchOf b) k r v → SlotIs (batchOf c) l r w → v ≡ w
   -- the two readings agree at every node
-  pub readings : (p t marks : List ℕ) → Words t → ((v : ℕ) → v < nodes t → getD marks v 0 ≡ 0) → (table : ℕ) (before row before′ plain : List ℕ) →
+  pub readings : (p t marks : List ℕ) → Bits16 t → ((v : ℕ) → v < nodes t → getD marks v 0 ≡ 0) → (table : ℕ) (before row before′ plain : List ℕ) →
       Read p table (doc t marks (nodes t)) before row Fine → PlainRead p t before′ plain Fine → (v : ℕ) → v < nodes t → getD row v 0 ≡ getD plain v 0
   -- the walker stays at a bad frame and at its end
   pub walker-refused : (b : List ℕ) (n at : ℕ) (why : Refusal) → stepAt b n at ≡ walker.Refused why → stepAt b (numberAfter b n at) (placeAfter b n at) ≡ walker.Refused why

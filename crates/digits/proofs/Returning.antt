@@ -1,4 +1,4 @@
--- Words that are written read back the same, and lines that are read are written back unchanged.
+-- Bits16 that are written read back the same, and lines that are read are written back unchanged.
 use Prim.Native.Nat.{ℕ, _+_, _-_, _*_, _/_, _%_, _^_, _<_, _≤_}
 use mathlib.Core.Path.{_≡_, _∙_}
 use mathlib.Core.List.{List}

@@ -1,4 +1,4 @@
--- The states in which a read leaves an inserted tree upwards, node by node from the last to the root: one row of bytes a node.
+-- Inside: the states in which a read leaves an inserted tree upwards, node by node from the last to the root: one row of bytes a node.
 use Prim.Native.Nat.{ℕ, suc, _*_, _<_, _≤_}
 use mathlib.Core.Path.{_≡_}
 use mathlib.Core.Bool.{Bool, true, false, _&&_, _||_}

@@ -1,4 +1,4 @@
--- From which states a read enters an inserted tree: what is checked, and the byte of each state.
+-- Inside: from which states a read enters an inserted tree: what is checked, and the byte of each state.
 use Prim.Native.Nat.{ℕ}
 use mathlib.Core.Bool.{_&&_, cond}
 use mathlib.Core.List.{List}

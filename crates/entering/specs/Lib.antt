@@ -1,3 +1,3 @@
--- What a reader must believe of entering an inserted tree is Entering; Climbing is how it is found, and need not be believed.
+-- Entering an inserted tree: the inside of the verdict, which need not be believed.
 pub mod Entering
 pub mod Climbing

@@ -18,7 +18,7 @@ use Rattle.tables.proofs.Tests.{first-passed, first-failed}
 use Rattle.tables.proofs.Accepted.{held, then-first, then-second}
 use Rattle.parts.specs.Parts.{count, stepsCheck, nodesCheck}
 use Rattle.frames.specs.Frames.{kind, kindRight, restCheck, frameCheck, nodesOf, endOf, frameOf, frameAt}
-use Rattle.outcomes.specs.declared.frames.Frame.{Frame}
+use Rattle.outcomes.specs.declared.frames.Extent.{Extent}
 use Rattle.outcomes.specs.declared.frames.Framed.the-variants as framed
 
 pub kind-one : (k : ℕ) → k ≡ 1 → true ≡ kindRight k
@@ -94,7 +94,7 @@ module _ (b : List ℕ) (at : ℕ) {k s : ℕ} (is : k ≡ kind b at) (steps : s
   unfolding frameOf nodesOf endOf
   frame-insert e m = rw (← is, ← steps, e, m)
 
-pub framed-found : (b : List ℕ) (n at : ℕ) {got : Checked} {f : Frame} → got ≡ frameCheck b n at → got ≡ Fine → f ≡ frameOf b at → framed.Found f ≡ frameAt b n at
+pub framed-found : (b : List ℕ) (n at : ℕ) {got : Checked} {f : Extent} → got ≡ frameCheck b n at → got ≡ Fine → f ≡ frameOf b at → framed.Found f ≡ frameAt b n at
 unfolding frameAt
 framed-found b n at e g f = rw (← e, g, f)
 

@@ -9,7 +9,7 @@ use Rattle.tables.specs.Checks.{_then_, test, refuse}
 use Rattle.tables.specs.declared.refusal.Checked.{Checked}
 use Rattle.tables.specs.declared.refusal.Checked.the-variants.{Fine, Refused}
 use Rattle.parts.specs.Parts.{count, stepsCheck, nodesCheck}
-use Rattle.outcomes.specs.declared.frames.Frame.{Frame}
+use Rattle.outcomes.specs.declared.frames.Extent.{Extent}
 use Rattle.outcomes.specs.declared.frames.Framed.{Framed}
 use Rattle.outcomes.specs.declared.frames.Framed.the-variants as framed
 
@@ -50,12 +50,12 @@ endOf b at =
     (treeAt at (count b (at + 1)))
 
 -- the frame itself: its kind, where its steps begin, how many steps and nodes it has, where it ends
-unfoldable pub frameOf : List ℕ → ℕ → Frame
+unfoldable pub frameOf : List ℕ → ℕ → Extent
 frameOf b at =
     record { kind = kind b at; from = at + 2; steps = count b (at + 1); nodes = nodesOf b at; next = endOf b at }
 
 -- what reading a frame answers: the frame, or its refusal
-abbrev pub answered : Checked → Frame → Framed
+abbrev pub answered : Checked → Extent → Framed
 answered Fine f = framed.Found f
 answered (Refused r) f = framed.Refused r
 

@@ -1,5 +1,5 @@
 // One frame of a batch, read where it stands: the place of a refusal is decided here.
-use outcomes::frames::Frame;
+use outcomes::frames::Extent;
 use outcomes::frames::Framed;
 use parts::nodes_checked;
 use parts::steps_checked;
@@ -70,7 +70,7 @@ fn frame_checked(b: &[u16], n: usize, at: usize) -> Checked
 }
 
 // The frame at a place where one stands.
-fn frame_of(b: &[u16], at: usize) -> Frame
+fn frame_of(b: &[u16], at: usize) -> Extent
     requires { ⌜ at < length (now b) ⌝ }
     ensures { λ r. ⌜ r ≡ frameOf (now (b .entry)) at ⌝ }
 {
@@ -78,7 +78,7 @@ fn frame_of(b: &[u16], at: usize) -> Frame
     let steps = word(b, at + 1);
     let end = at + 2 + 2 * steps;
     if kind != 2 {
-        return Frame {
+        return Extent {
             kind,
             from: at + 2,
             steps,
@@ -87,7 +87,7 @@ fn frame_of(b: &[u16], at: usize) -> Frame
         };
     }
     let nodes = word(b, end);
-    Frame {
+    Extent {
         kind,
         from: at + 2,
         steps,

@@ -8,9 +8,8 @@ use native.Mathlib.Omega.{arith}
 use lib.ListN.{length, getD, List·getD-eq-default}
 use borrow.Author.Tests.{le-leb}
 use Rattle.tables.specs.Limits.{usedLimit, wordLimit}
-use Rattle.tables.specs.Words.{nodes, parent}
+use Rattle.tables.specs.Words.{nodes, parent, Bits16}
 use Rattle.tables.specs.Documents.{Doc, capacity}
-use Rattle.tables.proofs.Soundness.{Words}
 use Rattle.selection.specs.Lists.{rising, count}
 use Rattle.selection.specs.Operations.{copiedParent, graft, grafts}
 use Rattle.selection.proofs.Lists.{length-rising, rising-of}
@@ -26,8 +25,8 @@ pub record Roomy (d : Doc) (more : ℕ) : Type 0 where
   pub marks : d .used + more ≤ length (d .marks)
 
 -- a table of words whose parents fall
-module _ (x : List ℕ) (words : Words x) (falls : (k : ℕ) → 0 < k → k < nodes x → parent x k < k) where
-  module _ (q : ℕ) (point : q < wordLimit) (d : Doc) (more : ℕ) (roomy : Roomy d (nodes x + more)) (table : Words (d .rows)) where
+module _ (x : List ℕ) (words : Bits16 x) (falls : (k : ℕ) → 0 < k → k < nodes x → parent x k < k) where
+  module _ (q : ℕ) (point : q < wordLimit) (d : Doc) (more : ℕ) (roomy : Roomy d (nodes x + more)) (table : Bits16 (d .rows)) where
     word : (k : ℕ) → k < nodes x → copiedParent x q (d .used) k < wordLimit
     word zero h = point
     word (suc k) h = rw (copied-below x q (d .used) (suc k) (omega arith)) (omega (arith, roomy .limit, falls (suc k) (omega arith) h))
@@ -39,7 +38,7 @@ module _ (x : List ℕ) (words : Words x) (falls : (k : ℕ) → 0 < k → k < n
     one : copied x q d ≡ graft x q d
     one = copied-graft x q d (λ k h. (word k h, words (2 * k + 1))) fits table
 
-    next-words : Words (graft x q d .rows)
+    next-words : Bits16 (graft x q d .rows)
     next-words = rw one at (copied-words x q d table)
 
     next-roomy : Roomy (graft x q d) more
@@ -49,7 +48,7 @@ module _ (x : List ℕ) (words : Words x) (falls : (k : ℕ) → 0 < k → k < n
       marks = rw (graft-used x q d, graft-marks-length x q d (omega (arith, roomy .marks))) (omega (arith, roomy .marks));
     }
 
-  pub all-grafts : (qs : List ℕ) → ((i : ℕ) → getD qs i 0 < wordLimit) → (d : Doc) → Roomy d (length qs * nodes x) → Words (d .rows) → copiedAll x qs d ≡ grafts x qs d
+  pub all-grafts : (qs : List ℕ) → ((i : ℕ) → getD qs i 0 < wordLimit) → (d : Doc) → Roomy d (length qs * nodes x) → Bits16 (d .rows) → copiedAll x qs d ≡ grafts x qs d
   unfolding copiedAll grafts
   all-grafts [] points d roomy table = refl
   all-grafts (q ∷ qs) points d roomy table =
@@ -60,7 +59,7 @@ module _ (x : List ℕ) (words : Words x) (falls : (k : ℕ) → 0 < k → k < n
       (all-grafts qs (λ i. points (suc i)) (graft x q d) (next-roomy q (points 0) d more here table) (next-words q (points 0) d more here table))
 
   -- so are copies under chosen nodes of a document
-  pub chosen-grafts : (f : ℕ → Bool) (d : Doc) → Roomy d (count f (d .used) * nodes x) → Words (d .rows) → copiedAll x (rising f (d .used)) d ≡ grafts x (rising f (d .used)) d
+  pub chosen-grafts : (f : ℕ → Bool) (d : Doc) → Roomy d (count f (d .used) * nodes x) → Bits16 (d .rows) → copiedAll x (rising f (d .used)) d ≡ grafts x (rising f (d .used)) d
   chosen-grafts f d roomy table = all-grafts (rising f (d .used)) (λ i. point i (decLt i (count f (d .used)))) d (rw length-rising roomy) table
     where
       point : (i : ℕ) → Dec (i < count f (d .used)) → getD (rising f (d .used)) i 0 < wordLimit

@@ -1,4 +1,4 @@
--- Copies one after another.
+-- Inside: copies one after another.
 use Prim.Native.Nat.{ℕ}
 use mathlib.Core.List.{List, [], _∷_}
 use Rattle.tables.specs.Documents.{Doc}

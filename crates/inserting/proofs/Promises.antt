@@ -6,13 +6,13 @@ use native.Mathlib.Omega.{arith}
 use lib.Dec.{leb}
 use lib.ListN.{length}
 use Rattle.tables.specs.Limits.{treeLimit}
-use Rattle.tables.specs.Words.{nodes}
+use Rattle.tables.specs.Words.{nodes, Bits16}
 use Rattle.tables.specs.Documents.{Doc, doc, capacity}
 use Rattle.tables.specs.Checks.{test, refuse}
 use Rattle.tables.specs.declared.refusal.Refusal.{Refusal}
 use Rattle.tables.specs.declared.refusal.Checked.{Checked}
 use Rattle.tables.specs.declared.refusal.Checked.the-variants.{Fine, Refused}
-use Rattle.tables.proofs.Soundness.{Words, used-facts, accepted-tree, accepted-nodes}
+use Rattle.tables.proofs.Soundness.{used-facts, accepted-tree, accepted-nodes}
 use Rattle.selection.specs.Lists.{rising, count}
 use Rattle.selection.specs.Operations.{copies, fits, inserted, grafts}
 use Rattle.selection.proofs.Lists.{count-most}
@@ -65,7 +65,7 @@ module _ (p x : List ℕ) (d : Doc) {before after : List ℕ} {answer : Inserted
     passes = copied-fine (insertCheck p x d) (copies p d) (d .used + copies p d * nodes x) (sym (planned .answered) ∙ told)
 
     -- a plan that is fine has room for every copy, and x is a tree: the copies are its grafts
-    copies-grafts : Words x → Words (d .rows) → copiedAll x (rising (chosen after) (d .used)) d ≡ grafts x (rising (chosen after) (d .used)) d
+    copies-grafts : Bits16 x → Bits16 (d .rows) → copiedAll x (rising (chosen after) (d .used)) d ≡ grafts x (rising (chosen after) (d .used)) d
     copies-grafts words table =
         let same = row-copies p d before (planned .row told) in
         let room : Room p x d = insert-room p x d passes in
@@ -73,7 +73,7 @@ module _ (p x : List ℕ) (d : Doc) {before after : List ℕ} {answer : Inserted
         (record { limit = rw same (room .limit); rows = rw same (room .rows); marks = rw same (room .marks) })
         table
 
-    pub insert-done : Words x → Words (d .rows) → {rows marks : List ℕ} {end : ℕ} → doc rows marks end ≡ copiedAll x (rising (chosen after) (d .used)) d →
+    pub insert-done : Bits16 x → Bits16 (d .rows) → {rows marks : List ℕ} {end : ℕ} → doc rows marks end ≡ copiedAll x (rising (chosen after) (d .used)) d →
         Insert p x d (d .rows) (d .marks) rows marks (Copied n used)
     unfolding inserted
     insert-done words table copied =

@@ -1,2 +1,2 @@
--- What the inside of insert holds.
+-- What the inside of insert holds: it need not be believed.
 pub mod Planning

@@ -1,4 +1,4 @@
--- What an insert knows before anything is written.
+-- Inside: what an insert knows before anything is written.
 use Prim.Native.Nat.{ℕ, _+_, _*_, _≤_}
 use mathlib.Core.Path.{_≡_}
 use mathlib.Core.List.{List}

@@ -9,7 +9,7 @@ use Rattle.tables.specs.Limits.{stepLimit}
 use Rattle.tables.specs.declared.refusal.Checked.the-variants.{Fine}
 use Rattle.tables.proofs.Accepted.{then-first}
 use Rattle.conflict.specs.Conflict.{Update, delete, insert}
-use Rattle.admission.specs.Order.{roomCheck, deepDeleteCheck, deepInsertCheck, deleteCheck, insertCheck, deepCheck, verdictCheck}
+use Rattle.admission.specs.Order.{roomCheck, deepDeleteCheck, deepInsertCheck, deleteVerdictCheck, insertVerdictCheck, deepCheck, verdictCheck}
 use Rattle.verdict.specs.Promise.{NodeVerdict}
 use Rattle.admission.proofs.Accepting.{delete-longest, insert-longest}
 use Rattle.tables.proofs.Accepted.{never}
@@ -28,7 +28,7 @@ module _ (r : List ℕ) (out after : List ℕ) (long : length out ≡ longest) w
   room-enough (insert p x) e = insert-longest r p long x e
 
   room-aside : (u : Update) → verdictCheck r u (length out) ≡ Fine → deepCheck r u ≡ Fine
-  unfolding deleteCheck insertCheck
+  unfolding deleteVerdictCheck insertVerdictCheck
   room-aside (delete p) e = then-first (deepDeleteCheck r p) (roomCheck r p (length out)) e
   room-aside (insert p x) e = then-first (deepInsertCheck r p x) (roomCheck r p (length out)) e
 

@@ -1,4 +1,4 @@
--- When the read and the update at two places of a batch clash.
+-- Inside: when the read and the update at two places of a batch clash.
 use mathlib.Core.Path.{_≡_}
 use mathlib.Core.Bool.{Bool, true, false}
 use mathlib.Core.List.{List}

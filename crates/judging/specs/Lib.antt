@@ -1,2 +1,2 @@
--- When a read and an update of a batch clash.
+-- When a read and an update of a batch clash: the inside of the plan, which need not be believed.
 pub mod Judging

@@ -1,4 +1,4 @@
--- Moves of a read and an update, and the labels at which they land.
+-- Inside: moves of a read and an update, and the labels at which they land.
 use Prim.Native.Nat.{ℕ}
 use mathlib.Core.Bool.{cond}
 use mathlib.Core.List.{List}

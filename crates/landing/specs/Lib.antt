@@ -1,2 +1,2 @@
--- What a reader must believe of landing.
+-- Landing: the inside of the verdict, which need not be believed.
 pub mod Landing

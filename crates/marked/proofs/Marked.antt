@@ -9,12 +9,12 @@ use lib.Dec.{eqb, ltb}
 use lib.ListN.{length}
 use borrow.Author.Tests.{eqb-true, ltb-true, ltb-false, lt-ltb, not-true}
 use Rattle.tables.specs.Limits.{stepLimit, treeLimit, wordLimit}
-use Rattle.tables.specs.Words.{steps, label}
+use Rattle.tables.specs.Words.{steps, label, Bits16}
 use Rattle.tables.specs.Patterns.{Pattern}
 use Rattle.tables.specs.Checks.{patternCheck, treeCheck, sizeCheck, each, axisCheck, axisRight, nodeCheck, parentRight}
 use Rattle.tables.specs.declared.refusal.Checked.{Checked}
 use Rattle.tables.specs.declared.refusal.Checked.the-variants.{Fine, Refused}
-use Rattle.tables.proofs.Soundness.{Words, accepted-pattern, accepted-tree}
+use Rattle.tables.proofs.Soundness.{accepted-pattern, accepted-tree}
 use Rattle.selection.specs.Ways.{last, up, ups}
 use Rattle.selection.proofs.Runs.{either, both}
 use Rattle.conflict.specs.Conflict.{Update, Smallest, Conflict, Touches, pattern}
@@ -39,7 +39,7 @@ unfoldable pub small : List ℕ → Bool
 small [] = true
 small (x ∷ xs) = ltb x wordLimit && small xs
 
-pub words-of : (xs : List ℕ) → small xs ≡ true → Words xs
+pub words-of : (xs : List ℕ) → small xs ≡ true → Bits16 xs
 unfolding small
 words-of [] e i = omega arith
 words-of (x ∷ xs) e zero = both (ltb x wordLimit) (small xs) e (λ h k. ltb-true x wordLimit h)
@@ -76,7 +76,7 @@ all-right (x ∷ xs) = right x && all-right xs
 -- a pattern that was accepted, with its words
 record Accepted (p : List ℕ) : Type 0 where
   is-pattern : Pattern p
-  words : Words p
+  words : Bits16 p
 
 accepted-read : (p : List ℕ) (table : ℕ) → fine (patternCheck p stepLimit table) ≡ true → small p ≡ true → Accepted p
 accepted-read p table f w = record { is-pattern = accepted-pattern p stepLimit table (is-fine _ f); words = words-of p w }

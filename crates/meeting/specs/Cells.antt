@@ -1,4 +1,4 @@
--- The table of shortest common ways: one row a state of the read, one cell a state of the update.
+-- Inside: the table of shortest common ways: one row a state of the read, one cell a state of the update.
 use Prim.Native.Nat.{ℕ, pred, _*_, _<_, _≤_}
 use mathlib.Core.Path.{_≡_}
 use mathlib.Core.Bool.{Bool}

@@ -1,4 +1,4 @@
--- What a reader must believe of meeting is Met; the others are how the shortest way is found, and need not be believed.
+-- Meeting: the inside of the verdict, which need not be believed.
 pub mod Met
 pub mod Cells
 pub mod Tracing

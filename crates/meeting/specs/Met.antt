@@ -1,4 +1,4 @@
--- The shortest way on which a read in one of several states and an update in one state both run: what counting and writing it answers.
+-- Inside: the shortest way on which a read in one of several states and an update in one state both run: what counting and writing it answers.
 use Prim.Native.Nat.{ℕ, zero, suc, _*_}
 use mathlib.Core.Path.{_≡_}
 use mathlib.Core.Bool.{Bool, cond}

@@ -1,4 +1,4 @@
--- What the functions that count and write a way ask.
+-- Inside: what the functions that count and write a way ask.
 use Prim.Native.Nat.{ℕ, _<_}
 use mathlib.Core.Bool.{Bool}
 use mathlib.Core.List.{List}

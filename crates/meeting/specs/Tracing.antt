@@ -1,4 +1,4 @@
--- The way of a cell, followed back through the table from its nearest label to the root.
+-- Inside: the way of a cell, followed back through the table from its nearest label to the root.
 use Prim.Native.Nat.{ℕ, zero, suc, pred, _*_, _<_, _≤_}
 use mathlib.Core.Path.{_≡_}
 use mathlib.Core.Bool.{Bool, cond}

@@ -12,7 +12,7 @@ use Rattle.conflict.specs.Conflict.{Update, delete, insert, Conflict, Smallest}
 use Rattle.conflict.specs.Crossing.{deleteWay, insertWay}
 use Rattle.conflict.proofs.Deletes.{smallest-delete}
 use Rattle.conflict.proofs.Inserts.{smallest-insert}
-use Rattle.order.specs.Fitting.{Fit, FitUpdate, Decides}
+use Rattle.order.specs.Fitting.{Fit, FitUpdate, DecidedBy}
 
 -- the number of nodes of a smallest witness, 0 for none
 abbrev pub fewest : List ℕ → Update → ℕ
@@ -36,5 +36,5 @@ some-conflict {r} {u} {n} s = (to, of)
     of c = ⊎-elim (λ (e : n ≡ 0). absurd (s .none e c)) (lt-ltb 0 n) (eq-zero-or-pos n)
 
 -- so the slots that demand 3 speaks of can be computed
-pub conflicting-decides : Decides Conflict conflicting
+pub conflicting-decides : DecidedBy Conflict conflicting
 conflicting-decides = record { exactly = λ {r} {u} reads fit. some-conflict (fewest-smallest r u reads fit) }

@@ -6,8 +6,9 @@ use mathlib.Core.Path.{_≡_, refl, sym}
 use mathlib.Core.Bool.{Bool, true, false, cond, false≢true}
 use mathlib.Core.List.{List, [], _∷_}
 use lib.ListN.{length}
-use Rattle.order.specs.Model.{Frame, read, update, At, here, there, updatesAt, earlier, number, nearest, slot}
-use Rattle.order.specs.Order.{Stands, Before, Order, countUp, own}
+use Rattle.order.specs.Model.{nearest, slot, Order}
+use Rattle.order.specs.Frames.{Frame, read, update, At, here, there, updatesAt, earlier, number}
+use Rattle.order.specs.Order.{Stands, Before, countUp, own}
 use Rattle.order.proofs.Places.{at-below}
 use Rattle.order.proofs.Slots.{slot-before}
 

@@ -5,7 +5,7 @@ use mathlib.Core.Path.{_≡_, refl, subst}
 use mathlib.Core.List.{List, [], _∷_}
 use mathlib.Core.Logic.{_≢_}
 use lib.ListN.{length}
-use Rattle.order.specs.Model.{Frame, read, update, At, here, there}
+use Rattle.order.specs.Frames.{Frame, read, update, At, here, there}
 
 module _ {A : Type 0} where
   pub at-one : {l : List A} {k : ℕ} {a c : A} → At l k a → At l k c → a ≡ c

@@ -7,7 +7,8 @@ use mathlib.Core.Bool.{Bool, true, false, cond, false≢true}
 use mathlib.Core.List.{List, [], _∷_, _++_}
 use mathlib.Core.Logic.{_≢_}
 use lib.ListN.{length, length-append}
-use Rattle.order.specs.Model.{Frame, read, update, At, here, there, updates, updatesAt, earlier, number, nearest, slot}
+use Rattle.order.specs.Model.{nearest, slot}
+use Rattle.order.specs.Frames.{Frame, read, update, At, here, there, updates, updatesAt, earlier, number}
 use Rattle.order.proofs.Places.{at-one, by-kind, not-both}
 
 either-most : (t : Bool) {x y most : ℕ} → x ≤ most → y ≤ most → cond t x y ≤ most

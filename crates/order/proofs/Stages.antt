@@ -9,8 +9,8 @@ use mathlib.Core.Bool.{Bool, true, false, cond}
 use mathlib.Core.List.{List, [], _∷_}
 use lib.Dec.{eqb}
 use lib.ListN.{length}
-use Rattle.order.specs.Model.{Model, Frame, update, At, here, there}
-use Rattle.order.specs.Order.{act, ran, met}
+use Rattle.order.specs.Model.{Model, act, ran, met}
+use Rattle.order.specs.Frames.{Frame, update, At, here, there}
 use Rattle.order.proofs.Places.{by-kind}
 
 module _ {Doc Read Update : Type 0} (model : Model Doc Read Update) where

@@ -7,8 +7,9 @@ use mathlib.Core.Path.{_≡_, sym, _∙_, subst}
 use mathlib.Core.Bool.{Bool, true}
 use mathlib.Core.List.{List}
 use mathlib.Core.Logic.{⊎-elim}
-use Rattle.order.specs.Model.{Model, Frame, read, update, At, slot, Fits}
-use Rattle.order.specs.Order.{Stands, Before, Order, own, met, Same}
+use Rattle.order.specs.Model.{Model, slot, Fits, Order, met, Same}
+use Rattle.order.specs.Frames.{Frame, read, update, At}
+use Rattle.order.specs.Order.{Stands, Before, own}
 use Rattle.order.proofs.Places.{at-below}
 use Rattle.order.proofs.Slots.{Found, found}
 use Rattle.order.proofs.Stages.{stage, met-keeps}

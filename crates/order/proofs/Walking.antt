@@ -7,8 +7,9 @@ use mathlib.Core.Bool.{Bool, true, false}
 use mathlib.Core.List.{List, [], _∷_}
 use mathlib.Core.Logic.{_≢_}
 use lib.ListN.{length}
-use Rattle.order.specs.Model.{Model, Frame, read, update, At, here, there, Fits}
-use Rattle.order.specs.Order.{Stands, Before, act, ran, lastDoc, met}
+use Rattle.order.specs.Model.{Model, Fits, act, ran, lastDoc, met}
+use Rattle.order.specs.Frames.{Frame, read, update, At, here, there}
+use Rattle.order.specs.Order.{Stands, Before}
 use Rattle.order.proofs.Places.{at-below, by-kind, apart}
 use Rattle.order.proofs.Stages.{Keeps, met-cases, stage, stage-keeps, stage-climb, ran-at}
 

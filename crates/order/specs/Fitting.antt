@@ -1,4 +1,4 @@
--- What holds of the frames of an accepted batch, and of a test that decides which reads and updates are related.
+-- Inside: what holds of the frames of an accepted batch, and of a test that decides which reads and updates are related.
 use Prim.Native.Nat.{ℕ, _<_}
 use mathlib.Core.Path.{_≡_}
 use mathlib.Core.Bool.{Bool, true}
@@ -9,7 +9,7 @@ use Rattle.tables.specs.Words.{steps, label}
 use Rattle.tables.specs.Patterns.{Pattern}
 use Rattle.tables.specs.Documents.{bare, Sound}
 use Rattle.conflict.specs.Conflict.{Update, delete, insert}
-use Rattle.order.specs.Model.{Frame, read, update}
+use Rattle.order.specs.Frames.{Frame, read, update}
 
 -- a pattern that is accepted, its words of 16 bits
 pub record Fit (p : List ℕ) : Type 0 where
@@ -37,5 +37,5 @@ FitFrame (read r) = Fit r
 FitFrame (update u) = FitUpdate u
 
 -- a test that decides a relation of reads and updates that are accepted
-pub record Decides (Related : List ℕ → Update → Type 0) (test : List ℕ → Update → Bool) : Type 0 where
+pub record DecidedBy (Related : List ℕ → Update → Type 0) (test : List ℕ → Update → Bool) : Type 0 where
   pub exactly : {r : List ℕ} {u : Update} → Fit r → FitUpdate u → (test r u ≡ true) ↔ Related r u

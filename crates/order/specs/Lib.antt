@@ -1,4 +1,5 @@
--- What a reader must believe of slots and of the orders in which a batch may be run.
-pub mod Model
+-- What a reader must believe of the frames of a batch and of orders of them is Frames and Order; Model and Fitting need not be believed.
+pub mod Frames
 pub mod Order
+pub mod Model
 pub mod Fitting

@@ -1,11 +1,8 @@
--- Orders in which the frames of a batch may be run, and what is the same in each of them.
+-- Orders of the frames of a batch: which frame stands where, and the batch's own order.
 use Prim.Native.Nat.{ℕ, zero, suc, _<_}
-use mathlib.Core.Path.{_≡_}
-use mathlib.Core.Bool.{Bool, cond}
 use mathlib.Core.List.{List, [], _∷_}
-use lib.Dec.{eqb}
 use lib.ListN.{length}
-use Rattle.order.specs.Model.{Model, Frame, read, update, At, number, slot}
+use Rattle.order.specs.Frames.{Frame, At}
 
 -- frame k stands in the order o
 pub record Stands (o : List ℕ) (k : ℕ) : Type 0 where
@@ -16,19 +13,6 @@ pub record Stands (o : List ℕ) (k : ℕ) : Type 0 where
 pub record Before (o : List ℕ) (i j : ℕ) : Type 0 where
   pub before : {p q : ℕ} → At o p i → At o q j → p < q
 
--- an order that keeps the updates in sequence and runs each read after the update of its slot and before every update that follows it
-pub record Order {Read Update : Type 0} (conflicts : Read → Update → Bool) (b : List (Frame Read Update)) (o : List ℕ) : Type 0 where
-  -- every frame stands in it, once, and nothing else does
-  pub every : (k : ℕ) → k < length b → Stands o k
-  pub once : {p q k : ℕ} → At o p k → At o q k → p ≡ q
-  pub only : {p k : ℕ} → At o p k → k < length b
-  -- the updates are kept in sequence
-  pub in-sequence : {i j : ℕ} {u w : Update} → At b i (update u) → At b j (update w) → i < j → Before o i j
-  -- each read runs after the update of its slot
-  pub after-slot : {i j : ℕ} {r : Read} {u : Update} → At b i (read r) → At b j (update u) → number b j ≡ slot conflicts b i r → Before o j i
-  -- and before every update that follows it in the batch
-  pub before-later : {i j : ℕ} {r : Read} {u : Update} → At b i (read r) → At b j (update u) → i < j → Before o i j
-
 -- n numbers from k on
 unfoldable pub countUp : ℕ → ℕ → List ℕ
 countUp k zero = []
@@ -37,34 +21,3 @@ countUp k (suc n) = k ∷ countUp (suc k) n
 -- the batch's own order
 unfoldable pub own : {Read Update : Type 0} → List (Frame Read Update) → List ℕ
 own b = countUp 0 (length b)
-
-module _ {Doc Read Update : Type 0} (model : Model Doc Read Update) where
-  -- the document after a frame: a read leaves it as it was
-  abbrev pub act : Frame Read Update → Doc → Doc
-  act (read r) d = d
-  act (update u) d = model .apply u d
-
-  -- the document after frame k
-  unfoldable pub ran : List (Frame Read Update) → ℕ → Doc → Doc
-  ran [] k d = d
-  ran (f ∷ b) zero d = act f d
-  ran (f ∷ b) (suc k) d = ran b k d
-
-  -- the last document, where the frames are run in the order o
-  unfoldable pub lastDoc : List (Frame Read Update) → List ℕ → Doc → Doc
-  lastDoc b [] d = d
-  lastDoc b (i ∷ o) d = lastDoc b o (ran b i d)
-
-  -- the document that frame k meets, where the frames are run in the order o; the last one, where k does not stand in o
-  unfoldable pub met : List (Frame Read Update) → List ℕ → Doc → ℕ → Doc
-  met b [] d k = d
-  met b (i ∷ o) d k = cond (eqb i k) d (met b o (ran b i d) k)
-
-  -- the order o gives what the batch's own order gives
-  pub record Same (b : List (Frame Read Update)) (o : List ℕ) (d : Doc) : Type 0 where
-    -- each read gives the same set of nodes
-    pub reads : {k : ℕ} {r : Read} → At b k (read r) → (v : ℕ) → model .sees r (met b o d k) v ≡ model .sees r (met b (own b) d k) v
-    -- each update meets the same document, so it answers the same: the same inserts are refused for room
-    pub updates : {k : ℕ} {u : Update} → At b k (update u) → met b o d k ≡ met b (own b) d k
-    -- the last document is the same
-    pub document : lastDoc b o d ≡ lastDoc b (own b) d

@@ -13,7 +13,7 @@ use Rattle.tables.specs.Documents.{bare}
 use Rattle.selection.specs.Ways.{up, ups, empty, runs, run, takes, stays, last, selected}
 use Rattle.selection.proofs.Up.{up-top, up-node}
 use Rattle.selection.proofs.Runs.{stays-next, stays-last}
-use Rattle.plain.specs.Plain.{landed, reached, landsOn, reachesTo, Asked}
+use Rattle.plain.specs.Landing.{landed, reached, landsOn, reachesTo, Asked}
 
 absorb : (b x y : Bool) → (b && (x || (b && y))) ≡ (b && (x || y))
 absorb true x y = refl

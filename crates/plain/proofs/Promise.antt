@@ -5,21 +5,22 @@ use mathlib.Core.Bool.{cond}
 use mathlib.Core.List.{List, _++_}
 use lib.ListN.{length, drop}
 use Rattle.tables.specs.Limits.{plainSteps, plainNodes}
-use Rattle.tables.specs.Words.{nodes}
+use Rattle.tables.specs.Words.{nodes, Bits16}
 use Rattle.tables.specs.Documents.{bare}
 use Rattle.tables.specs.Checks.{_then_, patternCheck, treeCheck, outputCheck}
 use Rattle.tables.specs.declared.refusal.Refusal.{Refusal}
 use Rattle.tables.specs.declared.refusal.Checked.{Checked}
 use Rattle.tables.specs.declared.refusal.Checked.the-variants.{Fine, Refused}
 use Rattle.tables.proofs.Accepted.{then-first, then-second, output-room}
-use Rattle.tables.proofs.Soundness.{Words, accepted-pattern, accepted-tree}
+use Rattle.tables.proofs.Soundness.{accepted-pattern, accepted-tree}
 use Rattle.selection.specs.Lists.{tab}
 use Rattle.selection.specs.Ways.{last, selected}
 use Rattle.selection.specs.Operations.{readRow}
 use Rattle.selection.proofs.Lists.{tab-ext}
 use Rattle.selection.proofs.Rows.{read-row, row-one}
 use Rattle.bare.specs.Bare.{plainCheck}
-use Rattle.plain.specs.Plain.{RowAfter, PlainRead, Readable, landsOn}
+use Rattle.plain.specs.Plain.{RowAfter, PlainRead}
+use Rattle.plain.specs.Landing.{Readable, landsOn}
 use Rattle.plain.proofs.Landing.{lands-selected}
 
 module _ (p t : List ℕ) (bytes : ℕ) (e : plainCheck p t bytes ≡ Fine) where
@@ -38,7 +39,7 @@ module _ (p t : List ℕ) (bytes : ℕ) (e : plainCheck p t bytes ≡ Fine) wher
   room = output-room (nodes t) bytes (then-second (patternCheck p plainSteps 1) (outputCheck (nodes t) bytes) rest-fine)
 
 -- accepted tables can be read
-pub readable : (p t row : List ℕ) {got : Checked} → Words t → got ≡ plainCheck p t (length row) → got ≡ Fine → Readable p t row
+pub readable : (p t row : List ℕ) {got : Checked} → Bits16 t → got ≡ plainCheck p t (length row) → got ≡ Fine → Readable p t row
 readable p t row words e f =
     let fine : plainCheck p t (length row) ≡ Fine = sym e ∙ f in
     record {
@@ -48,7 +49,7 @@ readable p t row words e f =
     }
 
 -- a row that was filled is the read's row, and so says which nodes are selected by embeddings
-pub plain-read : (p t before : List ℕ) {after : List ℕ} {got : Checked} → Words t → got ≡ plainCheck p t (length before) → got ≡ Fine →
+pub plain-read : (p t before : List ℕ) {after : List ℕ} {got : Checked} → Bits16 t → got ≡ plainCheck p t (length before) → got ≡ Fine →
     after ≡ tab (λ v. cond (landsOn p t (last p) v) 1 0) (nodes t) ++ drop (nodes t) before → PlainRead p t before after Fine
 unfolding readRow
 plain-read p t before words e f filled =

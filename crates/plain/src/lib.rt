@@ -10,7 +10,8 @@ ghost use lib.ListN.{drop};
 ghost use Rattle.tables.specs.Words.{nodes, tag};
 ghost use Rattle.selection.specs.Lists.{tab};
 ghost use Rattle.selection.specs.Ways.{takes, last};
-ghost use Rattle.plain.specs.Plain.{PlainRead, Asked, Readable, landsOn, reachesTo};
+ghost use Rattle.plain.specs.Plain.{PlainRead};
+ghost use Rattle.plain.specs.Landing.{Asked, Readable, landsOn, reachesTo};
 
 // Whether the labels of step i and node v agree: a wildcard with any.
 fn agrees(p: &[u16], t: &[u16], i: usize, v: usize) -> bool

@@ -4,7 +4,7 @@ use mathlib.Core.Path.{_≡_, refl}
 use mathlib.Core.List.{List}
 use native.Mathlib.Omega.{arith}
 use lib.ListN.{length, getD}
-use Rattle.order.specs.Model.{read, update}
+use Rattle.order.specs.Frames.{read, update}
 use Rattle.order.proofs.Places.{by-kind}
 use Rattle.batches.specs.Batches.{batchOf}
 use Rattle.batch.proofs.Laws.{word-one}

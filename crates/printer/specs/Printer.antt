@@ -11,7 +11,7 @@ use Rattle.tables.specs.declared.refusal.Refusal.{Refusal}
 use Rattle.tables.specs.declared.refusal.Checked.{Checked}
 use Rattle.tables.specs.declared.refusal.Checked.the-variants as checked
 use Rattle.conflict.specs.Conflict.{Update}
-use Rattle.order.specs.Model.{Frame, At}
+use Rattle.order.specs.Frames.{Frame, At}
 use Rattle.parts.specs.Parts.{part}
 use Rattle.frames.specs.Frames.{kind, endOf, frameCheck}
 use Rattle.batches.specs.Batches.{batchOf}

@@ -7,7 +7,8 @@ use Rattle.tables.specs.Limits.{stepLimit}
 use Rattle.tables.specs.Documents.{Doc}
 use Rattle.tables.specs.declared.refusal.Checked.{Checked}
 use Rattle.tables.specs.declared.refusal.Checked.the-variants.{Fine}
-use Rattle.tables.proofs.Soundness.{Words, accepted-pattern, accepted-document}
+use Rattle.tables.specs.Words.{Bits16}
+use Rattle.tables.proofs.Soundness.{accepted-pattern, accepted-document}
 use Rattle.selection.specs.Embeddings.{Selects}
 use Rattle.selection.specs.Rows.{Row}
 use Rattle.selection.specs.Operations.{readRow}
@@ -24,7 +25,7 @@ read-one {p} {d = d} {before} {x = x} {y} r s =
     (r .row ∙ ap (λ (z : Checked). whereFine z (readRow p d before) before) same ∙ sym (s .row), same)
 
 -- a read that meets no refusal: byte v is 1 exactly if p selects v by embeddings, else 0; later bytes stay
-pub read-selects : {p : List ℕ} {table : ℕ} {d : Doc} {before after : List ℕ} → Read p table d before after Fine → Words (d .rows) → Row (Selects p d) (d .used) before after
+pub read-selects : {p : List ℕ} {table : ℕ} {d : Doc} {before after : List ℕ} → Read p table d before after Fine → Bits16 (d .rows) → Row (Selects p d) (d .used) before after
 read-selects {p} {table} {d} {before} r words =
     let fine : readCheck p table d (length before) ≡ Fine = sym (r .answered) in
     rw (r .row)

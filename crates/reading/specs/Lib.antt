@@ -1,3 +1,3 @@
--- What a reader must believe of reading a document; States has what its inside holds.
+-- What a reader must believe of reading a document is Reading; States is what its inside holds, and need not be believed.
 pub mod Reading
 pub mod States

@@ -1,4 +1,4 @@
--- What the row holds while steps are taken one after another: at each node whether the last step taken stands there, and the one before it.
+-- Inside: what the row holds while steps are taken one after another: at each node whether the last step taken stands there, and the one before it.
 use Prim.Native.Nat.{ℕ, zero, suc, _/_, _<_, _≤_}
 use mathlib.Core.Path.{_≡_}
 use mathlib.Core.Bool.{Bool, false, _&&_, cond}

@@ -1,2 +1,2 @@
--- What the inside of counting holds.
+-- What the inside of counting holds: it need not be believed.
 pub mod Ticking

@@ -1,4 +1,4 @@
--- What counting chosen nodes adds for a byte.
+-- Inside: what counting chosen nodes adds for a byte.
 use Prim.Native.Nat.{ℕ}
 use mathlib.Core.Bool.{cond}
 use lib.Dec.{eqb}

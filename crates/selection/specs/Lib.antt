@@ -1,4 +1,4 @@
--- What a reader must believe of selection and of the three operations.
+-- What a reader must believe of selection and of the three operations; Ways is how selection is computed, and need not be believed.
 pub mod Embeddings
 pub mod Ways
 pub mod Rows

@@ -1,4 +1,4 @@
--- Selection computed: a run of the pattern over the labels from a node up to the root. The law Rattle.selection.proofs.Selecting says that it is selection by embeddings.
+-- Inside: selection computed, as a run of the pattern over the labels from a node up to the root. On sound documents it is selection by embeddings.
 use Prim.Native.Nat.{ℕ, zero, suc, pred}
 use mathlib.Core.Bool.{Bool, true, false, _&&_, _||_, cond}
 use mathlib.Core.List.{List, [], _∷_}

@@ -1,8 +1,9 @@
-// Table 3: every single-word damage of some batches.
+// Table 3: every single-word damage of some batches, and behind each batch's those of two words.
 use crate::numbering::front;
 use crate::show::number;
 use crate::show::spaced;
 use crate::show::text;
+use crate::two_damages;
 use answers::answer::Answer;
 use sloefertand::batches::sloefertand_plan;
 
@@ -69,7 +70,7 @@ fn replaced(words: &mut [u16], w: usize, value: u16, n: usize, frames: usize) ->
 }
 
 // A word of a batch, 0 outside.
-fn word_of(b: &[u16], i: usize) -> u16 {
+pub(crate) fn word_of(b: &[u16], i: usize) -> u16 {
     if i < b.len() {
         return b[i];
     }
@@ -161,8 +162,14 @@ fn damaged(name: usize, b: &[u16], frames: usize) {
     }
 }
 
+// A batch with one word damaged, then with two.
+fn both(name: usize, b: &[u16], frames: usize) {
+    damaged(name, b, frames);
+    two_damages::lines(name, b);
+}
+
 pub(crate) fn table() {
-    damaged(
+    both(
         1,
         &[
             3,
@@ -199,13 +206,13 @@ pub(crate) fn table() {
         ],
         5,
     );
-    damaged(
+    both(
         2,
         &[2, 1, 0, 0, 3, 0, 1, 0, 2, 1, 3, 1, 3, 0, 1, 1, 0, 2, 2],
         2,
     );
-    damaged(3, &[1, 1, 0, 1], 1);
-    damaged(
+    both(3, &[1, 1, 0, 1], 1);
+    both(
         4,
         &[3, 3, 0, 0, 2, 1, 1, 0, 3, 2, 0, 2, 2, 0, 1, 2, 0, 2, 1, 1],
         3,

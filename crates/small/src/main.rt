@@ -6,6 +6,7 @@ mod pairs;
 mod plans;
 mod show;
 mod small_documents;
+mod two_damages;
 
 fn main() {
     pairs::table();

@@ -1,4 +1,4 @@
--- The byte of a node, and what one step makes of it: the step by its name, 0 for a wildcard, and by whether it stays.
+-- Inside: the byte of a node, and what one step makes of it: the step by its name, 0 for a wildcard, and by whether it stays.
 use Prim.Native.Nat.{ℕ, _+_, _%_}
 use mathlib.Core.Bool.{Bool, _&&_, _||_, cond}
 use lib.Dec.{eqb, leb}

@@ -1,4 +1,4 @@
--- What the checks accept: a pattern, a sound tree, a sound document. Words are below 2 ^ 16.
+-- What the checks accept: a pattern, a sound tree, a sound document. Bits16 are below 2 ^ 16.
 use Prim.Native.Nat.{ℕ, zero, suc, _+_, _*_, _/_, _%_, _<_, _≤_}
 use mathlib.Core.Path.{_≡_, refl}
 use mathlib.Core.Bool.{Bool, true, false, _&&_, _||_, and-eq-true-iff}
@@ -13,15 +13,11 @@ use borrow.Author.Tests.{eqb-true, ltb-true, leb-true, ne-eqb, lt-ltb, le-leb}
 use Rattle.tables.specs.declared.refusal.Checked.{Checked}
 use Rattle.tables.specs.declared.refusal.Checked.the-variants.{Fine}
 use Rattle.tables.specs.Limits.{usedLimit, wordLimit}
-use Rattle.tables.specs.Words.{steps, axis, nodes, parent, tag}
+use Rattle.tables.specs.Words.{steps, axis, nodes, parent, tag, Bits16}
 use Rattle.tables.specs.Patterns.{Pattern}
 use Rattle.tables.specs.Documents.{Doc, bare, mark, Sound}
 use Rattle.tables.specs.Checks.{refuse, _then_, test, each, sizeCheck, axisRight, axisCheck, patternCheck, parentRight, nodeCheck, treeCheck, usedRight, usedCheck, markRight, markCheck, documentCheck}
 use Rattle.tables.proofs.Accepted.{held, then-first, then-second, each-fine, each-all}
-
--- every word of the list is below 2 ^ 16
-abbrev pub Words : List ℕ → Type 0
-Words t = (i : ℕ) → getD t i 0 < wordLimit
 
 -- one of two tests holds
 pub either-of : (a b : Bool) → (a || b) ≡ true → (a ≡ true) ⊎ (b ≡ true)
@@ -129,7 +125,7 @@ module _ (t : List ℕ) (limit table : ℕ) (e : treeCheck t limit table ≡ Fin
   accepted-whole = omega (arith, size-even (length t) limit table tree-size)
 
   -- an accepted tree is sound
-  pub accepted-tree : Words t → Sound (bare t)
+  pub accepted-tree : Bits16 t → Sound (bare t)
   accepted-tree words =
       record {
         room = omega arith;
@@ -199,7 +195,7 @@ module _ (d : Doc) (e : documentCheck d ≡ Fine) where
       (and-second (leb (mark d v) 1) _ (rw (ne-eqb v 0 (λ z. omega arith)) at (mark-at v h)))
 
   -- an accepted document is sound
-  pub accepted-document : Words (d .rows) → Sound d
+  pub accepted-document : Bits16 (d .rows) → Sound d
   accepted-document words =
       let falls = node-falls (d .rows) 5 (d .used) document-nodes in
       record {

@@ -31,7 +31,8 @@ mark d v = getD (d .marks) v 0
 abbrev pub present : Doc → ℕ → Bool
 present d v = ltb v (d .used) && eqb (mark d v) 0
 
--- what holds of a document that meets no refusal 4, 5 or 12, and of a tree that meets no refusal 1, 4 or 5
+-- What holds of a document that meets no refusal 4, 5 or 12, and of a tree that meets no refusal 1, 4 or 5. It is wider than document 01's word: a document
+-- of any size is meant, with or without marks, and a mark over 1 means removed too, so that every law is stated once for documents and for trees.
 pub record Sound (d : Doc) : Type 0 where
   -- the table holds every used node
   pub room : d .used ≤ nodes (d .rows)

@@ -1,7 +1,8 @@
 -- Patterns and trees as lists of words.
-use Prim.Native.Nat.{ℕ, _+_, _*_, _/_}
+use Prim.Native.Nat.{ℕ, _+_, _*_, _/_, _<_}
 use mathlib.Core.List.{List}
 use lib.ListN.{length, getD}
+use Rattle.tables.specs.Limits.{wordLimit}
 
 -- a pattern: two words a step, axis and label; the last step is the output
 abbrev pub steps : List ℕ → ℕ
@@ -22,3 +23,7 @@ parent t v = getD t (2 * v) 0
 
 abbrev pub tag : List ℕ → ℕ → ℕ
 tag t v = getD t (2 * v + 1) 0
+
+-- every word of the list has 16 bits, as every word that is lent to a call
+abbrev pub Bits16 : List ℕ → Type 0
+Bits16 t = (i : ℕ) → getD t i 0 < wordLimit

@@ -6,11 +6,11 @@ use mathlib.Core.List.{List}
 use mathlib.Core.Logic.{_⊎_, inl, inr}
 use native.Mathlib.Omega.{arith}
 use lib.ListN.{length}
-use Rattle.tables.specs.Words.{parent}
+use Rattle.tables.specs.Words.{parent, Bits16}
 use Rattle.tables.specs.Documents.{Doc, doc, mark, present, Sound}
 use Rattle.tables.specs.declared.refusal.Refusal.{Refusal}
 use Rattle.tables.specs.declared.refusal.Checked.the-variants.{Fine}
-use Rattle.tables.proofs.Soundness.{Words, used-facts, accepted-document}
+use Rattle.tables.proofs.Soundness.{used-facts, accepted-document}
 use Rattle.selection.specs.Lists.{count}
 use Rattle.selection.specs.Embeddings.{Child, Below, one, more}
 use Rattle.selection.specs.Ways.{up, last, sel, selected}
@@ -112,7 +112,7 @@ module _ (p : List ℕ) (d : Doc) {after : List ℕ} {n : ℕ} (done : Delete p 
       both (present d v) (not (hits p (up (d .rows) v))) (sym (present-after v) ∙ e)
       (λ here clear. rw delete-doc (rw (deleted-selects r p d v, clear, and-true)))
 
-  module _ (words : Words (d .rows)) where
+  module _ (words : Bits16 (d .rows)) where
     sound : Sound d
     sound = accepted-document d (delete-document p d delete-fine) words
 

@@ -4,11 +4,11 @@ use mathlib.Core.Path.{_≡_, sym, _∙_, ap}
 use mathlib.Core.List.{List}
 use lib.ListN.{length, getD}
 use Rattle.tables.specs.Limits.{treeLimit}
-use Rattle.tables.specs.Words.{nodes}
+use Rattle.tables.specs.Words.{nodes, Bits16}
 use Rattle.tables.specs.Documents.{Doc, doc, bare, mark, Sound}
 use Rattle.tables.specs.declared.refusal.Refusal.{Refusal}
 use Rattle.tables.specs.declared.refusal.Checked.the-variants.{Fine}
-use Rattle.tables.proofs.Soundness.{Words, accepted-document, accepted-tree}
+use Rattle.tables.proofs.Soundness.{accepted-document, accepted-tree}
 use Rattle.selection.specs.Lists.{count}
 use Rattle.selection.specs.Ways.{up, selected}
 use Rattle.selection.specs.Operations.{points, inserted, copies}
@@ -74,7 +74,7 @@ module _ (p x : List ℕ) (d : Doc) {rows marks : List ℕ} {n used : ℕ} (done
   pub insert-marks-length : length marks ≡ length (d .marks)
   insert-marks-length = ap (λ (c : Doc). length (c .marks)) insert-doc ∙ inserted-marks-length p x d (room .marks)
 
-  module _ (document : Words (d .rows)) (tree : Words x) where
+  module _ (document : Bits16 (d .rows)) (tree : Bits16 x) where
     sound : Sound d
     sound = accepted-document d (insert-document p x d insert-fine) document
 

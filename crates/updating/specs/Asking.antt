@@ -1,4 +1,4 @@
--- What the inside of an update asks and knows: its checks, and once they are fine a row with 1 at the nodes that the pattern selects, made once.
+-- Inside: what the inside of an update asks and knows: its checks, and once they are fine a row with 1 at the nodes that the pattern selects, made once.
 use Prim.Native.Nat.{ℕ, _<_}
 use mathlib.Core.Path.{_≡_}
 use mathlib.Core.Bool.{Bool, cond}

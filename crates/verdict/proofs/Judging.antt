@@ -12,7 +12,7 @@ use Rattle.outcomes.specs.declared.verdicts.Verdict.{Verdict}
 use Rattle.outcomes.specs.declared.verdicts.Verdict.the-variants.{Clear, Conflict, Refused as NotJudged}
 use Rattle.conflict.specs.Crossing.{chain}
 use Rattle.verdict.specs.Verdict.{foundOf}
-use Rattle.ways.specs.Ways.{Written}
+use Rattle.ways.specs.Ways.{WayWritten}
 
 -- the verdict of a check and a way, and the output after it: the way's chain at the front, where there is one; a refusal changes nothing
 unfoldable pub verdictOf : Checked → ℕ → Verdict
@@ -35,7 +35,7 @@ unfolding foundOf
 found-some n e = rw (ne-eqb n 0 e)
 
 module _ {got : Checked} (check : Checked) (e : got ≡ check) where
-  pub judged-on : {answer : Verdict} {n : ℕ} {way before after : List ℕ} → got ≡ Fine → Written way before after n → answer ≡ foundOf n → Judged check way before after answer
+  pub judged-on : {answer : Verdict} {n : ℕ} {way before after : List ℕ} → got ≡ Fine → WayWritten way before after n → answer ≡ foundOf n → Judged check way before after answer
   unfolding verdictOf outputOf
   judged-on told w a =
       record {

@@ -7,22 +7,21 @@ use mathlib.Core.List.{List, [], _∷_, _++_}
 use lib.ListN.{length, take, drop, length-append, length-drop}
 use lib.Seq.{take-at, drop-at}
 use borrow.Author.Tests.{ne-eqb}
-use Rattle.tables.specs.Words.{nodes}
+use Rattle.tables.specs.Words.{nodes, Bits16}
 use Rattle.tables.specs.declared.refusal.Checked.{Checked}
 use Rattle.tables.specs.declared.refusal.Checked.the-variants.{Fine, Refused}
 use Rattle.tables.proofs.Accepted.{never}
-use Rattle.tables.proofs.Soundness.{Words}
-use Rattle.conflict.specs.Conflict.{Update, delete, insert}
+use Rattle.conflict.specs.Conflict.{Update, UpdateBits, delete, insert}
 use Rattle.conflict.specs.Crossing.{chain, deleteWay, insertWay}
 use Rattle.conflict.proofs.Chains.{length-chain, nodes-chain}
 use Rattle.conflict.proofs.Smallest.{smallest}
 use Rattle.outcomes.specs.declared.verdicts.Verdict.{Verdict}
 use Rattle.outcomes.specs.declared.verdicts.Verdict.the-variants.{Clear, Conflict as Found, Refused as NotJudged}
-use Rattle.admission.specs.Order.{verdictCheck, deleteCheck, insertCheck}
+use Rattle.admission.specs.Order.{verdictCheck, deleteVerdictCheck, insertVerdictCheck}
 use Rattle.verdict.specs.Promise.{NodeVerdict, witnessNodes}
 use Rattle.verdict.specs.Verdict.{foundOf}
 use Rattle.admission.proofs.Accepting.{delete-deep, delete-room, insert-deep, insert-room}
-use Rattle.ways.proofs.Deciding.{Deciding, delete-deciding, insert-deciding, UpdateWords}
+use Rattle.ways.proofs.Deciding.{Deciding, delete-deciding, insert-deciding}
 use Rattle.verdict.proofs.Judging.{verdictOf, outputOf, Judged}
 
 module _ (r : List ℕ) (u : Update) (before : List ℕ) where
@@ -62,23 +61,23 @@ module _ (r : List ℕ) (u : Update) (before : List ℕ) where
       go (Refused why) e = record { given = e; kept = refl }
 
 -- a delete: every word has 16 bits
-module _ (r p : List ℕ) (names : Words r) (others : Words p) where
-  pub delete-promise : {before after : List ℕ} {answer : Verdict} → Judged (deleteCheck r p (length before)) (deleteWay r p) before after answer
+module _ (r p : List ℕ) (names : Bits16 r) (others : Bits16 p) where
+  pub delete-promise : {before after : List ℕ} {answer : Verdict} → Judged (deleteVerdictCheck r p (length before)) (deleteWay r p) before after answer
       → NodeVerdict r (delete p) before after answer
   delete-promise {before} j = judged-verdict r (delete p) before found j
     where
-      found : deleteCheck r p (length before) ≡ Fine → Deciding r (delete p) (deleteWay r p) × (2 * length (deleteWay r p) ≤ length before)
+      found : deleteVerdictCheck r p (length before) ≡ Fine → Deciding r (delete p) (deleteWay r p) × (2 * length (deleteWay r p) ≤ length before)
       found e =
           let d : Deciding r (delete p) (deleteWay r p) = delete-deciding r p names others (delete-deep r p (length before) e) in
           (d, omega (arith, d .bound, delete-room r p (length before) e))
 
 -- an insert
-module _ (r p x : List ℕ) (names : Words r) (others : Words p) (tags : Words x) where
-  pub insert-promise : {before after : List ℕ} {answer : Verdict} → Judged (insertCheck r p x (length before)) (insertWay r p x) before after answer
+module _ (r p x : List ℕ) (names : Bits16 r) (others : Bits16 p) (tags : Bits16 x) where
+  pub insert-promise : {before after : List ℕ} {answer : Verdict} → Judged (insertVerdictCheck r p x (length before)) (insertWay r p x) before after answer
       → NodeVerdict r (insert p x) before after answer
   insert-promise {before} j = judged-verdict r (insert p x) before found j
     where
-      found : insertCheck r p x (length before) ≡ Fine → Deciding r (insert p x) (insertWay r p x) × (2 * length (insertWay r p x) ≤ length before)
+      found : insertVerdictCheck r p x (length before) ≡ Fine → Deciding r (insert p x) (insertWay r p x) × (2 * length (insertWay r p x) ≤ length before)
       found e =
           let d : Deciding r (insert p x) (insertWay r p x) = insert-deciding r p x names others tags (insert-deep r p (length before) x e) in
           (d, omega (arith, d .bound, insert-room r p (length before) x e))
@@ -101,13 +100,13 @@ module _ (r : List ℕ) (u : Update) (before a b : List ℕ) where
       (ap Found same, f .behind ∙ sym (rw (← same) at (g .behind)))
 
 -- The promise can be met: for every read, update and output of words there are an answer and an output that do.
-pub verdict-met : (r : List ℕ) (u : Update) (before : List ℕ) → Words r → UpdateWords u
+pub verdict-met : (r : List ℕ) (u : Update) (before : List ℕ) → Bits16 r → UpdateBits u
     → (answer : Verdict) × (after : List ℕ) × NodeVerdict r u before after answer
 verdict-met r (delete p) before names others =
-    let check : Checked = deleteCheck r p (length before) in
+    let check : Checked = deleteVerdictCheck r p (length before) in
     let way : List ℕ = deleteWay r p in
     (verdictOf check (length way), outputOf check way before, delete-promise r p names others {before = before} (record { says = refl; writes = refl }))
 verdict-met r (insert p x) before names others =
-    let check : Checked = insertCheck r p x (length before) in
+    let check : Checked = insertVerdictCheck r p x (length before) in
     let way : List ℕ = insertWay r p x in
     (verdictOf check (length way), outputOf check way before, insert-promise r p x names (others .0) (others .1) {before = before} (record { says = refl; writes = refl }))

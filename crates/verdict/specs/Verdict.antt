@@ -1,4 +1,4 @@
--- What the private function answers: the number of a way as a verdict.
+-- Inside: what the private function answers: the number of a way as a verdict.
 use Prim.Native.Nat.{ℕ}
 use mathlib.Core.Bool.{cond}
 use lib.Dec.{eqb}

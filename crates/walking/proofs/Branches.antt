@@ -9,7 +9,7 @@ use Rattle.tables.specs.Limits.{batchLimit}
 use Rattle.tables.specs.declared.refusal.Refusal.{Refusal}
 use Rattle.parts.specs.Parts.{part}
 use Rattle.frames.specs.Frames.{frameAt}
-use Rattle.outcomes.specs.declared.frames.Frame.{Frame}
+use Rattle.outcomes.specs.declared.frames.Extent.{Extent}
 use Rattle.outcomes.specs.declared.frames.Framed.{Framed}
 use Rattle.outcomes.specs.declared.frames.Framed.the-variants as framed
 use Rattle.walking.specs.Walking.{answerOf, stepAt, placeAfter, numberAfter, partAt}
@@ -20,7 +20,7 @@ module _ (b : List ℕ) (n at : ℕ) {got : Framed} (is : got ≡ frameAt b n at
   pub framed-refused : {r : Refusal} → got ≡ framed.Refused r → answer.Refused r ≡ answerOf (frameAt b n at)
   framed-refused e = rw (← is, e)
 
-  pub framed-found : {f : Frame} → got ≡ framed.Found f → answer.Frame f ≡ answerOf (frameAt b n at)
+  pub framed-found : {f : Extent} → got ≡ framed.Found f → answer.Frame f ≡ answerOf (frameAt b n at)
   framed-found e = rw (← is, e)
 
 module _ (b : List ℕ) (n at : ℕ) where
@@ -41,7 +41,7 @@ module _ (b : List ℕ) (n at : ℕ) {got : Stepped} (is : got ≡ stepAt b n at
   unfolding placeAfter
   place-refused e = rw (← is, e)
 
-  pub place-frame : {f : Frame} → got ≡ answer.Frame f → f .next ≡ placeAfter b n at
+  pub place-frame : {f : Extent} → got ≡ answer.Frame f → f .next ≡ placeAfter b n at
   unfolding placeAfter
   place-frame e = rw (← is, e)
 
@@ -53,7 +53,7 @@ module _ (b : List ℕ) (n at : ℕ) {got : Stepped} (is : got ≡ stepAt b n at
   unfolding numberAfter
   number-refused e = rw (← is, e)
 
-  pub number-frame : {f : Frame} → got ≡ answer.Frame f → n + 1 ≡ numberAfter b n at
+  pub number-frame : {f : Extent} → got ≡ answer.Frame f → n + 1 ≡ numberAfter b n at
   unfolding numberAfter
   number-frame e = rw (← is, e)
 
@@ -71,7 +71,7 @@ module _ (b : List ℕ) (n at : ℕ) {got : Stepped} (is : got ≡ stepAt b n at
   pub part-refused : {r : Refusal} → got ≡ answer.Refused r → part b 0 0 ≡ partAt b n at
   part-refused e = none 0 (place-refused e)
 
-  pub part-frame : {f : Frame} → got ≡ answer.Frame f → part b at (f .next - at) ≡ partAt b n at
+  pub part-frame : {f : Extent} → got ≡ answer.Frame f → part b at (f .next - at) ≡ partAt b n at
   unfolding partAt
   part-frame e = rw (place-frame e)
 

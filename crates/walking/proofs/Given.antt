@@ -11,7 +11,7 @@ use Rattle.tables.specs.Limits.{frameLimit, batchLimit}
 use Rattle.tables.specs.declared.refusal.Checked.{Checked}
 use Rattle.tables.specs.declared.refusal.Checked.the-variants.{Fine, Refused}
 use Rattle.frames.specs.Frames.{frameCheck, endOf, frameOf, answered, frameAt}
-use Rattle.outcomes.specs.declared.frames.Frame.{Frame}
+use Rattle.outcomes.specs.declared.frames.Extent.{Extent}
 use Rattle.frames.proofs.Ending.{end-behind}
 use Rattle.frames.proofs.Accepted.{frame-below, end-room}
 use Rattle.walking.specs.Walking.{answerOf, stepAt}
@@ -19,12 +19,12 @@ use Rattle.outcomes.specs.declared.frames.Stepped.{Stepped}
 use Rattle.outcomes.specs.declared.frames.Stepped.the-variants as answer
 
 -- f is frame n, and stands at this place of a batch within its limit
-pub record Given (b : List ℕ) (n at : ℕ) (f : Frame) : Type 0 where
+pub record Given (b : List ℕ) (n at : ℕ) (f : Extent) : Type 0 where
   pub words : length b ≤ batchLimit
   pub fine : frameCheck b n at ≡ Fine
   pub found : f ≡ frameOf b at
 
-pub given : (b : List ℕ) (n at : ℕ) {f : Frame} → stepAt b n at ≡ answer.Frame f → Given b n at f
+pub given : (b : List ℕ) (n at : ℕ) {f : Extent} → stepAt b n at ≡ answer.Frame f → Given b n at f
 unfolding stepAt frameAt
 given b n at {f} e = go (leb (length b) batchLimit) refl (ltb at (length b)) (frameCheck b n at) refl e
   where
@@ -37,7 +37,7 @@ given b n at {f} e = go (leb (length b) batchLimit) refl (ltb at (length b)) (fr
     go false h t c fine e = let z : _≡_ {A = ℕ} 0 1 = cc in absurd (omega arith)
 
 -- the part from its place to its end lies within the batch
-module _ (b : List ℕ) (n at : ℕ) {got : Stepped} {f : Frame} (is : got ≡ stepAt b n at) (e : got ≡ answer.Frame f) where
+module _ (b : List ℕ) (n at : ℕ) {got : Stepped} {f : Extent} (is : got ≡ stepAt b n at) (e : got ≡ answer.Frame f) where
   here : Given b n at f
   here = given b n at (rw (← is) e)
 

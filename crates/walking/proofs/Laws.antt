@@ -8,7 +8,7 @@ use Rattle.tables.specs.Limits.{batchLimit}
 use Rattle.tables.specs.declared.refusal.Refusal.{Refusal}
 use Rattle.parts.specs.Parts.{part}
 use Rattle.frames.specs.Frames.{endOf, frameOf}
-use Rattle.outcomes.specs.declared.frames.Frame.{Frame}
+use Rattle.outcomes.specs.declared.frames.Extent.{Extent}
 use Rattle.walking.specs.Walking.{stepAt, placeAfter, numberAfter, partAt}
 use Rattle.outcomes.specs.declared.frames.Stepped.the-variants as answer
 use Rattle.walking.proofs.Given.{given}
@@ -28,13 +28,13 @@ module _ (b : List ℕ) (n at : ℕ) where
   over-stays e = rw (← number-over b n at refl e, ← place-over b n at refl e) e
 
   -- a frame that is given is the one that stands there, and the walker then stands at its end, with the next number
-  module _ {f : Frame} (e : stepAt b n at ≡ answer.Frame f) where
+  module _ {f : Extent} (e : stepAt b n at ≡ answer.Frame f) where
     pub frame-is : f ≡ frameOf b at
     frame-is = given b n at e .found
 
     pub frame-place : placeAfter b n at ≡ endOf b at
     unfolding frameOf
-    frame-place = sym (place-frame b n at refl e) ∙ ap (λ (g : Frame). g .next) frame-is
+    frame-place = sym (place-frame b n at refl e) ∙ ap (λ (g : Extent). g .next) frame-is
 
     pub frame-next : numberAfter b n at ≡ n + 1
     frame-next = sym (number-frame b n at refl e)

@@ -4,10 +4,10 @@ use native.Mathlib.Omega.{arith}
 use mathlib.Core.Path.{_≡_}
 use mathlib.Core.List.{List}
 use lib.ListN.{length}
-use Rattle.tables.specs.Words.{steps}
+use Rattle.tables.specs.Words.{steps, Bits16}
 use Rattle.tables.specs.Limits.{treeLimit}
 use Rattle.tables.specs.declared.refusal.Checked.the-variants.{Fine}
-use Rattle.tables.proofs.Soundness.{Words, accepted-tree}
+use Rattle.tables.proofs.Soundness.{accepted-tree}
 use Rattle.conflict.specs.Conflict.{Update, delete, insert, pattern}
 use Rattle.conflict.specs.Crossing.{deleteWay, insertWay}
 use Rattle.conflict.proofs.Smallest.{Decides}
@@ -16,18 +16,13 @@ use Rattle.conflict.proofs.Inserts.{decides-insert, insertWay-most}
 use Rattle.admission.specs.Order.{deepDeleteCheck, deepInsertCheck}
 use Rattle.admission.proofs.Accepting.{patterns-read, delete-patterns, delete-bounded, delete-two, insert-patterns, insert-bounded, insert-tree}
 
--- every word of an update has 16 bits
-abbrev pub UpdateWords : Update → Type 0
-UpdateWords (delete p) = Words p
-UpdateWords (insert p x) = Words p × Words x
-
 -- a way that decides, within the bound
 pub record Deciding (r : List ℕ) (u : Update) (way : List ℕ) : Type 0 where
   pub decides : Decides r u way
   pub bound : length way ≤ steps r + steps (pattern u) - 1
 
 -- a delete: every word has 16 bits
-module _ (r p : List ℕ) (names : Words r) (others : Words p) where
+module _ (r p : List ℕ) (names : Bits16 r) (others : Bits16 p) where
   pub delete-deciding : deepDeleteCheck r p ≡ Fine → Deciding r (delete p) (deleteWay r p)
   delete-deciding e =
       record {
@@ -37,7 +32,7 @@ module _ (r p : List ℕ) (names : Words r) (others : Words p) where
       }
 
 -- an insert
-module _ (r p x : List ℕ) (names : Words r) (others : Words p) (tags : Words x) where
+module _ (r p x : List ℕ) (names : Bits16 r) (others : Bits16 p) (tags : Bits16 x) where
   pub insert-deciding : deepInsertCheck r p x ≡ Fine → Deciding r (insert p x) (insertWay r p x)
   insert-deciding e =
       record {

@@ -20,12 +20,12 @@ use Rattle.conflict.specs.Meeting.{sooner, shorter, meetingOf, fewestOf}
 use Rattle.conflict.specs.Crossing.{enters, entering, deleteWay, insertWay}
 use Rattle.conflict.proofs.Shortest.{length-meetingOf}
 use Rattle.admission.specs.Admitted.{Bounded}
-use Rattle.admission.specs.Order.{needed, patternsCheck, deleteCheck, insertCheck}
+use Rattle.admission.specs.Order.{needed, patternsCheck, deleteVerdictCheck, insertVerdictCheck}
 use Rattle.admission.proofs.Accepting.{read-fine, patterns-bounded, delete-patterns, delete-bounded, delete-deep, delete-room, insert-patterns, insert-bounded, insert-tree, insert-deep, insert-room}
 use Rattle.entering.specs.Entering.{enteringCheck, entered}
 use Rattle.meeting.specs.Met.{markedWay, nearest, met, Met}
 use Rattle.ways.specs.Marked.{Only}
-use Rattle.ways.specs.Ways.{touches, Written}
+use Rattle.ways.specs.Ways.{touches, WayWritten}
 
 -- one state of so many is marked
 pub only-set : (i : ℕ) → i < stepLimit → {states : List ℕ} → states ≡ set (replicate {A = ℕ} stepLimit 0) i 1 → Only i states
@@ -38,10 +38,10 @@ only-set i h e =
     }
 
 -- an admitted read and update are bounded
-pub delete-bounds : (r p : List ℕ) (words : ℕ) → deleteCheck r p words ≡ Fine → Bounded r p
+pub delete-bounds : (r p : List ℕ) (words : ℕ) → deleteVerdictCheck r p words ≡ Fine → Bounded r p
 delete-bounds r p words e = delete-bounded r p (delete-deep r p words e)
 
-pub insert-bounds : (r p x : List ℕ) (words : ℕ) → insertCheck r p x words ≡ Fine → Bounded r p
+pub insert-bounds : (r p x : List ℕ) (words : ℕ) → insertVerdictCheck r p x words ≡ Fine → Bounded r p
 insert-bounds r p x words e = insert-bounded r p x (insert-deep r p words x e)
 
 pub last-inside : {r p : List ℕ} {i : ℕ} → Bounded r p → i ≡ steps r - 1 → i < stepLimit
@@ -95,13 +95,13 @@ module _ (r : List ℕ) (below : Bool) (p : List ℕ) (under : Bool) (states : L
     unfolding met
     met-all = rw (fine, lt-ltb j (steps p) inside) at m
 
-    met-written : needed r p ≤ length before → Written (nearest r below p under states j (steps r)) before after n
+    met-written : needed r p ≤ length before → WayWritten (nearest r below p under states j (steps r)) before after n
     met-written room = record { count = met-all .count; words = rw (le-leb (needed r p) (length before) room) at (met-all .words) }
 
 -- a delete's way
-module _ (r p : List ℕ) {i j n : ℕ} (states before after : List ℕ) (fine : deleteCheck r p (length before) ≡ Fine) (d : i ≡ steps r - 1) (e : j ≡ steps p - 1)
+module _ (r p : List ℕ) {i j n : ℕ} (states before after : List ℕ) (fine : deleteVerdictCheck r p (length before) ≡ Fine) (d : i ≡ steps r - 1) (e : j ≡ steps p - 1)
     (only : Only i states) (m : Met r p (met (patternsCheck r p) (ltb j (steps p)) (nearest r false p true states j (steps r))) before after n) where
-  pub delete-written : Written (deleteWay r p) before after n
+  pub delete-written : WayWritten (deleteWay r p) before after n
   unfolding deleteWay
   delete-written =
       let patterns = delete-patterns r p (delete-deep r p (length before) fine) in
@@ -135,10 +135,10 @@ module _ (r p x states : List ℕ) (fine : enteringCheck r x ≡ Fine) (w : stat
       rw (nearest-enters (last r) (omega arith), byte-is (last r) (last-limit (steps r) some few), le-ltb (last r) (last r) (omega arith))
       (shorter-none (entering r p x (last r)))
 
-module _ (r p x : List ℕ) {j n : ℕ} (states before after : List ℕ) (fine : insertCheck r p x (length before) ≡ Fine) (e : j ≡ steps p - 1)
+module _ (r p x : List ℕ) {j n : ℕ} (states before after : List ℕ) (fine : insertVerdictCheck r p x (length before) ≡ Fine) (e : j ≡ steps p - 1)
     (w : states ≡ tab (whereFine (enteringCheck r x) (entered r x) (λ _. 0)) stepLimit)
     (m : Met r p (met (patternsCheck r p) (ltb j (steps p)) (nearest r false p false states j (steps r))) before after n) where
-  pub insert-written : Written (insertWay r p x) before after n
+  pub insert-written : WayWritten (insertWay r p x) before after n
   unfolding enteringCheck
   insert-written =
       let deep = insert-deep r p (length before) x fine in

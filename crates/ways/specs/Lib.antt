@@ -1,3 +1,3 @@
--- What a reader must believe of shortest ways is Ways; Marked is what their inside holds.
+-- Shortest ways: the inside of the verdict, which need not be believed.
 pub mod Ways
 pub mod Marked

@@ -1,4 +1,4 @@
--- One state marked, as meeting asks for it.
+-- Inside: one state marked, as meeting asks for it.
 use Prim.Native.Nat.{ℕ, _<_}
 use mathlib.Core.Path.{_≡_}
 use mathlib.Core.List.{List}

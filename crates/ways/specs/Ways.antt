@@ -1,4 +1,4 @@
--- What counting and writing a shortest way answers.
+-- Inside: what counting and writing a shortest way answers.
 use Prim.Native.Nat.{ℕ, pred, _*_}
 use mathlib.Core.Path.{_≡_}
 use mathlib.Core.Bool.{Bool, false, _&&_, true}
@@ -11,7 +11,7 @@ use Rattle.conflict.specs.Meeting.{fewestOf}
 use Rattle.conflict.specs.Crossing.{chain}
 
 -- a way is counted, and written as a chain at the front; all behind it stays
-pub record Written (way before after : List ℕ) (n : ℕ) : Type 0 where
+pub record WayWritten (way before after : List ℕ) (n : ℕ) : Type 0 where
   pub count : n ≡ length way
   pub words : after ≡ chain way ++ drop (2 * n) before
 

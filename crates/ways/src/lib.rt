@@ -15,9 +15,9 @@ ghost use Rattle.tables.specs.Limits.{stepLimit};
 ghost use Rattle.tables.specs.Checks.{whereFine};
 ghost use Rattle.tables.specs.declared.refusal.Checked.the-variants.{Fine};
 ghost use Rattle.conflict.specs.Crossing.{deleteWay, insertWay};
-ghost use Rattle.admission.specs.Order.{patternsCheck, deleteCheck, insertCheck};
+ghost use Rattle.admission.specs.Order.{patternsCheck, deleteVerdictCheck, insertVerdictCheck};
 ghost use Rattle.ways.specs.Marked.{Only};
-ghost use Rattle.ways.specs.Ways.{touches, Written};
+ghost use Rattle.ways.specs.Ways.{touches, WayWritten};
 
 // A byte for every state, with a 1 at state i.
 fn only(i: usize) -> [u8; STEP_LIMIT]
@@ -31,8 +31,8 @@ fn only(i: usize) -> [u8; STEP_LIMIT]
 
 // The shortest way that an admitted read selects and an admitted delete hits.
 fn shortest_delete(r: &[u16], p: &[u16], out: &mut [u16]) -> usize
-    requires { ⌜ deleteCheck (now r) (now p) (length (now out)) ≡ Fine ⌝ }
-    ensures { λ n. ⌜ Written (deleteWay (now (r .entry)) (now (p .entry))) (now (out .entry)) (now (out .exit)) n ⌝ }
+    requires { ⌜ deleteVerdictCheck (now r) (now p) (length (now out)) ≡ Fine ⌝ }
+    ensures { λ n. ⌜ WayWritten (deleteWay (now (r .entry)) (now (p .entry))) (now (out .entry)) (now (out .exit)) n ⌝ }
 {
     let i = r.len() / 2 - 1;
     let j = p.len() / 2 - 1;
@@ -42,8 +42,8 @@ fn shortest_delete(r: &[u16], p: &[u16], out: &mut [u16]) -> usize
 
 // The shortest way that an admitted insert selects and from which the read enters the inserted tree.
 fn shortest_insert(r: &[u16], p: &[u16], x: &[u16], out: &mut [u16]) -> usize
-    requires { ⌜ insertCheck (now r) (now p) (now x) (length (now out)) ≡ Fine ⌝ }
-    ensures { λ n. ⌜ Written (insertWay (now (r .entry)) (now (p .entry)) (now (x .entry))) (now (out .entry)) (now (out .exit)) n ⌝ }
+    requires { ⌜ insertVerdictCheck (now r) (now p) (now x) (length (now out)) ≡ Fine ⌝ }
+    ensures { λ n. ⌜ WayWritten (insertWay (now (r .entry)) (now (p .entry)) (now (x .entry))) (now (out .entry)) (now (out .exit)) n ⌝ }
 {
     let j = p.len() / 2 - 1;
     let states = entering_states(r, x);
@@ -67,7 +67,7 @@ fn touch_found(r: &[u16], p: &[u16]) -> bool
 
 // The shortest way that the read selects and the delete hits: how many labels it has, 0 for none, and its chain at the front of the output.
 pub fn delete_way(r: &[u16], p: &[u16], out: &mut [u16]) -> usize
-    ensures { λ n. ⌜ Written (whereFine (deleteCheck (now (r .entry)) (now (p .entry)) (length (now (out .entry)))) (deleteWay (now (r .entry)) (now (p .entry))) []) (now (out .entry)) (now (out .exit)) n ⌝ }
+    ensures { λ n. ⌜ WayWritten (whereFine (deleteVerdictCheck (now (r .entry)) (now (p .entry)) (length (now (out .entry)))) (deleteWay (now (r .entry)) (now (p .entry))) []) (now (out .entry)) (now (out .exit)) n ⌝ }
 {
     match delete_check(r, p, out.len()) {
         Checked::Fine => shortest_delete(r, p, out),
@@ -77,7 +77,7 @@ pub fn delete_way(r: &[u16], p: &[u16], out: &mut [u16]) -> usize
 
 // The same of a read and an insert: the way to an update point from which the read enters the inserted tree.
 pub fn insert_way(r: &[u16], p: &[u16], x: &[u16], out: &mut [u16]) -> usize
-    ensures { λ n. ⌜ Written (whereFine (insertCheck (now (r .entry)) (now (p .entry)) (now (x .entry)) (length (now (out .entry)))) (insertWay (now (r .entry)) (now (p .entry)) (now (x .entry))) []) (now (out .entry)) (now (out .exit)) n ⌝ }
+    ensures { λ n. ⌜ WayWritten (whereFine (insertVerdictCheck (now (r .entry)) (now (p .entry)) (now (x .entry)) (length (now (out .entry)))) (insertWay (now (r .entry)) (now (p .entry)) (now (x .entry))) []) (now (out .entry)) (now (out .exit)) n ⌝ }
 {
     match insert_check(r, p, x, out.len()) {
         Checked::Fine => shortest_insert(r, p, x, out),

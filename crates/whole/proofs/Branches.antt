@@ -10,7 +10,7 @@ use Rattle.tables.specs.declared.refusal.Refusal.{Refusal}
 use Rattle.tables.specs.declared.refusal.Checked.{Checked}
 use Rattle.tables.specs.declared.refusal.Checked.the-variants.{Fine, Refused}
 use Rattle.frames.specs.Frames.{endOf, frameAt}
-use Rattle.outcomes.specs.declared.frames.Frame.{Frame}
+use Rattle.outcomes.specs.declared.frames.Extent.{Extent}
 use Rattle.outcomes.specs.declared.frames.Framed.{Framed}
 use Rattle.outcomes.specs.declared.frames.Framed.the-variants as framed
 use Rattle.whole.specs.Whole.{wholeCheck}
@@ -24,7 +24,7 @@ module _ (b : List ℕ) (n at : ℕ) where
     pub behind-why : {r : Refusal} → got ≡ framed.Refused r → Refused r ≡ wholeCheck b n at
     behind-why told = rw (le-leb (length b) batchLimit h, frame-why b n at e told)
 
-    module _ {f : Frame} (told : got ≡ framed.Found f) where
+    module _ {f : Extent} (told : got ≡ framed.Found f) where
       pub behind-fine : f .next ≡ length b → Fine ≡ wholeCheck b n at
       behind-fine same =
           rw (le-leb (length b) batchLimit h, frame-fine b n at e told, eq-eqb (endOf b at) (length b) (sym (frame-next b n at e told) ∙ same))

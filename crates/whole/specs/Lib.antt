@@ -1,2 +1,2 @@
--- What a reader must believe of a whole frame.
+-- A whole frame: the inside of the plan printer, which need not be believed.
 pub mod Whole

@@ -1,4 +1,4 @@
--- A frame that takes all words from its place on.
+-- Inside: a frame that takes all words from its place on.
 use Prim.Native.Nat.{ℕ}
 use mathlib.Core.List.{List}
 use lib.Dec.{eqb, leb}

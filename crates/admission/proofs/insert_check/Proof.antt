@@ -1,6 +1,6 @@
 -- The tables first, then the room.
 use Rattle.tables.proofs.Branches.{then-on, then-off}
-use Rattle.admission.specs.Order.{insertCheck}
+use Rattle.admission.specs.Order.{insertVerdictCheck}
 use borrow.Author.Needs.{needs}
 use Rattle.admission.proofs.insert_check.Statement.{statement}
 use Rattle.admission.proofs.insert_check.Tie as tie
@@ -18,11 +18,11 @@ enum-known-why : tie.Need-enum-known-why
 enum-known-why c = search needs
 
 returns : tie.Need-returns
-unfolding insertCheck
+unfolding insertVerdictCheck
 returns c = then-on _ (c .before .before .before .deep-insert-check .ensures) (c .before .enum-told .given .1) (c .room .ensures)
 
 returns-2 : tie.Need-returns-2
-unfolding insertCheck
+unfolding insertVerdictCheck
 returns-2 c = then-off _ (c .before .before .before .deep-insert-check .ensures) (c .before .why .given .1)
 
 pub insert-check-spec : {M : Type 1} → statement M

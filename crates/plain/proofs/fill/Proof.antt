@@ -9,7 +9,7 @@ use lib.ListN.{drop}
 use Rattle.selection.specs.Lists.{tab}
 use Rattle.selection.specs.Ways.{last}
 use Rattle.selection.proofs.Filling.{row-start, row-more, row-within, row-long, row-end}
-use Rattle.plain.specs.Plain.{landsOn}
+use Rattle.plain.specs.Landing.{landsOn}
 use Rattle.plain.proofs.Landing.{landed-bit}
 use Rattle.plain.proofs.fill.Statement.{statement}
 use Rattle.plain.proofs.fill.Tie as tie
