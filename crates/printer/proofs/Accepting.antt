@@ -49,7 +49,7 @@ pub record Sofar (n : ℕ) (b kinds : List ℕ) : Type 0 where
 pub sofar-none : Sofar 0 [] []
 sofar-none = record { walk = done refl; within = omega arith; few = omega arith; each = refl }
 
-sofar-more : (l : List ℕ) (k : ℕ) {n : ℕ} {b kinds : List ℕ} → takeCheck l n b ≡ Fine → Sofar n b kinds → Sofar (n + 1) (b ++ wordsOf l) (kinds ++ (k ∷ []))
+pub sofar-more : (l : List ℕ) (k : ℕ) {n : ℕ} {b kinds : List ℕ} → takeCheck l n b ≡ Fine → Sofar n b kinds → Sofar (n + 1) (b ++ wordsOf l) (kinds ++ (k ∷ []))
 sofar-more l k {n} {b} {kinds} e h = record {
   walk = rw (add-one n) (walk-longer b (wordsOf l) (h .walk) (taken-frame l n b e) (taken-end l n b e));
   within = taken-within l n b e;

@@ -36,7 +36,7 @@ module _ (s : List ℕ) (at : ℕ) where
         let none : length s - k ≡ 0 = omega arith in
         sym (e ∙ rw none)
 
-feed-least : (s : List ℕ) (at left : ℕ) → at ≤ feedFrom s at left
+pub feed-least : (s : List ℕ) (at left : ℕ) → at ≤ feedFrom s at left
 unfolding feedFrom
 feed-least s at zero = omega arith
 feed-least s at (suc left) = go (eqb (getD s at 0) 10) (feed-least s (suc at) left)

@@ -29,6 +29,10 @@ use Rattle.printer.proofs.Cutting.{end-least, end-most}
 
 -- what a line that is taken says
 module _ (l : List ℕ) (n : ℕ) (b : List ℕ) (e : takeCheck l n b ≡ Fine) where
+  pub taken-line : lineCheck l (n + 1) ≡ Fine
+  unfolding takeCheck
+  taken-line = then-first (lineCheck l (n + 1)) _ e
+
   behind : wholeCheck (b ++ wordsOf l) n (length b) ≡ Fine
   unfolding takeCheck
   behind = then-second (lineCheck l (n + 1)) _ e

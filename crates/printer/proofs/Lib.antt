@@ -6,3 +6,5 @@ pub mod Longer
 pub mod Accepting
 pub mod Promise
 pub mod Settled
+pub mod Enough
+pub mod Behind

@@ -14,8 +14,6 @@ use Rattle.outcomes.specs.declared.plans.Planned.{Planned}
 use Rattle.outcomes.specs.declared.plans.Planned.the-variants as planned
 use Rattle.printing.specs.Printing.{threeOf, planText, Answered}
 use Rattle.outcomes.specs.declared.texts.Printed.{Printed}
-use Rattle.outcomes.specs.declared.texts.Printed.the-variants as printed
-use Rattle.printing.proofs.Promise.{text-within}
 use Rattle.printer.specs.Printer.{PlanIs, refusal, plan, PrintedAs}
 use Rattle.printer.specs.Reading.{RanAs, PlanPrinted}
 use Rattle.printer.specs.declared.Ran.{Ran}
@@ -29,12 +27,6 @@ plan-is b before after long fine (planned.Refused r) e =
     let z : _≡_ {A = ℕ} 0 1 = cc in
     absurd (omega arith)
 plan-is b before after long fine (planned.Frames n) e = record { words = e .2 .words }
-
--- the bytes that are printed lie within the output
-pub bytes-within : (s before after : List ℕ) (answer : Printed) → PrintedAs s before after answer → {n : ℕ} → answer ≡ printed.Bytes n → n ≤ length before
-bytes-within s before after answer e {n} told =
-    let here : Answered (e .text) before after (printed.Bytes n) = rw told at (e .answered) in
-    text-within (e .text) before after here
 
 -- from how the lines end to what is printed
 module _ (s batch kinds : List ℕ) (got : Ran) (e : RanAs s batch kinds got) where

@@ -28,7 +28,7 @@ use Rattle.printer.specs.declared.Taken.the-variants as took
 use Rattle.whole.specs.Whole.{wholeCheck}
 
 -- a check is fine, or is this refusal
-abbrev Only : Refusal → Checked → Type 0
+abbrev pub Only : Refusal → Checked → Type 0
 Only r c = (c ≡ Fine) ⊎ (c ≡ Refused r)
 
 only-test : (r : Refusal) (t : Bool) → Only r (test t (Refused r))
@@ -45,7 +45,7 @@ only-each r check all v zero = inl refl
 only-each r check all v (suc k) = only-then r (check v) (each check (suc v) k) (all v) (only-each r check all (suc v) k)
 
 -- a line is refused by 13 alone
-line-only : (l : List ℕ) (line : ℕ) → Only (record { number = 13; table = 6; place = line }) (lineCheck l line)
+pub line-only : (l : List ℕ) (line : ℕ) → Only (record { number = 13; table = 6; place = line }) (lineCheck l line)
 unfolding lineCheck characterCheck
 line-only l line =
     let r : Refusal = record { number = 13; table = 6; place = line } in

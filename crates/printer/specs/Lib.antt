@@ -1,3 +1,5 @@
--- What a reader must believe of the plan printer is Printer; Reading is what its functions ask of each other, and need not be believed.
+-- What a reader must believe of the plan printer is Printer, and of the program's two numbers Enough; Reading is what its functions ask of each other,
+-- and need not be believed.
 pub mod Printer
+pub mod Enough
 pub mod Reading

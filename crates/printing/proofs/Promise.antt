@@ -35,10 +35,6 @@ lines-room n have = go (decLe (13 * n) have)
     go (yes h) = rw (le-leb (13 * n) have h, le-leb n (have / 13) (omega arith))
     go (no h) = rw (lt-leb (13 * n) have (omega arith), lt-leb n (have / 13) (omega arith))
 
--- the bytes that are printed lie within the output
-pub text-within : (text before after : List ℕ) {n : ℕ} → Answered text before after (printed.Bytes n) → n ≤ length before
-text-within text before after e = omega (arith, e .1, output-room (length text) (length before) (e .0))
-
 -- two answers with their buffers that meet the promise are the same
 pub answer-one : (text before a b : List ℕ) (x y : Printed) → Answered text before a x → Answered text before b y → (x ≡ y) × (a ≡ b)
 answer-one text before a b (printed.Refused q) (printed.Refused r) f g = let e = f .0 in let h = g .0 in ((cc), f .1 ∙ sym (g .1))

@@ -1,0 +1,2 @@
+-- What the program's own functions promise each other.
+pub mod Plan
