@@ -47,6 +47,8 @@ use Rattle.walking.proofs.Laws.{refused-stays, over-stays}
 use Rattle.digits.specs.Digits.{wordsOf, lineOf}
 use Rattle.digits.proofs.Returning.{length-wordsOf, length-lineOf}
 use Rattle.printer.proofs.Settled.{printed-one}
+use Rattle.printer.proofs.Enough.{room-enough}
+use Rattle.printer.proofs.Behind.{prints-first}
 use Rattle.demands.specs.Demands.{DemandOne, DemandTwo, Keeps, Start, DemandThree, Besides}
 use Rattle.demands.proofs.Thirteen.{stops}
 use Rattle.demands.proofs.Orders as orders
@@ -155,5 +157,7 @@ besides =
       words-behind = λ s line before after n h. behind (wordsOf s) before (h .1 ∙ sym (length-wordsOf s)) (h .2);
       digits-behind = λ ws before after n h. behind (lineOf ws) before (h .1 ∙ sym (length-lineOf ws)) (h .2);
       bytes-behind = λ s before after n h. behind (h .text) before (h .answered .1) (h .answered .2);
+      output-enough = λ s before after why h. room-enough h refl;
+      input-enough = prints-first;
       examples = marked;
     }

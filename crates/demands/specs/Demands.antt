@@ -3,7 +3,8 @@
 --   DemandOne     each call's refusals, by its order of checks
 --   DemandTwo     the verdict and its witness; reading, deleting and inserting, by embeddings
 --   DemandThree   the plan; a batch run call by call, in any order that keeps the plan
---   Besides       what else document 01 says of the calls: deep verdicts, plans, the two readings, the walker, what stays, P1 to P15
+--   Besides       what else document 01 says of the calls: deep verdicts, plans, the two readings, the walker, what stays, the
+--                 program's two numbers, P1 to P15
 --
 -- A call is named by its promise: Read, Delete, Insert, NodeVerdict, DeepVerdict, Plan and so on, each over what is lent to it before and after.
 -- Told says that an exported function returns the numbers of an answer that meets such a promise.
@@ -57,7 +58,8 @@ use Rattle.lines.specs.Lines.{lineCheck, ReadAs}
 use Rattle.outcomes.specs.declared.texts.Parsed.the-variants as parsed
 use Rattle.spelling.specs.Spelling.{WrittenAs}
 use Rattle.outcomes.specs.declared.texts.Spelled.the-variants as spelled
-use Rattle.printer.specs.Printer.{Lines, stopped, PrintedAs}
+use Rattle.printer.specs.Printer.{Lines, stopped, Prints, PrintedAs}
+use Rattle.printer.specs.Enough.{printedMost, inputMost}
 use Rattle.outcomes.specs.declared.texts.Printed.{Printed}
 use Rattle.outcomes.specs.declared.texts.Printed.the-variants as printed
 use Rattle.demands.specs.Updates.{DeletedBy, InsertedBy}
@@ -196,5 +198,8 @@ pub record Besides : Type 0 where
   pub words-behind : (s : List ℕ) (line : ℕ) (before after : List ℕ) (n : ℕ) → ReadAs s line before after (parsed.Words n) → drop n after ≡ drop n before
   pub digits-behind : (ws before after : List ℕ) (n : ℕ) → WrittenAs ws before after (spelled.Digits n) → drop n after ≡ drop n before
   pub bytes-behind : (s before after : List ℕ) (n : ℕ) → PrintedAs s before after (printed.Bytes n) → drop n after ≡ drop n before
+  -- the program's two numbers: so many bytes of output are always enough, and behind so many bytes of input nothing changes what is printed
+  pub output-enough : (s before after : List ℕ) (why : Refusal) → PrintedAs s before after (printed.Refused why) → printedMost ≤ length before → ⊥
+  pub input-enough : (s text : List ℕ) → Prints s text ↔ Prints (take inputMost s) text
   -- P1 to P15
   pub examples : Marked
