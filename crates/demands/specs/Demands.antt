@@ -7,62 +7,10 @@
 --                 program's two numbers, P1 to P15
 --
 -- A call is named by its promise: Read, Delete, Insert, NodeVerdict, DeepVerdict, Plan and so on, each over what is lent to it before and after.
--- Told says that an exported function returns the numbers of an answer that meets such a promise.
-use Prim.Native.Nat.{ℕ, _+_, _*_, _-_, _/_, _<_, _≤_}
-use mathlib.Core.Path.{_≡_}
-use mathlib.Core.Bool.{true, false}
-use mathlib.Core.List.{List, [], _∷_}
-use mathlib.Core.Logic.{_↔_}
-use lib.ListN.{length, getD, take, drop}
-use Rattle.tables.specs.Words.{steps, nodes, Bits16}
-use Rattle.tables.specs.Patterns.{Pattern}
-use Rattle.tables.specs.Documents.{Doc, doc, bare, mark, present, Sound}
-use Rattle.tables.specs.declared.refusal.Refusal.{Refusal}
-use Rattle.tables.specs.declared.refusal.Checked.{Checked}
-use Rattle.tables.specs.declared.refusal.Checked.the-variants.{Fine, Refused}
-use Rattle.tables.specs.Checks.{_then_, outputCheck, patternCheck, treeCheck, documentCheck}
-use Rattle.answers.specs.declared.answer.Answer.{Answer}
-use Rattle.answers.specs.Answers.{refusing, Told}
-use Rattle.numbers.specs.Numbers.{ofChecked, ofDeleted, ofInserted, ofVerdict, ofDeeply}
-use Rattle.batch_numbers.specs.Numbers.{ofStepped, ofPlanned, ofParsed, ofSpelled, ofPrinted}
-use Rattle.selection.specs.Lists.{count}
-use Rattle.selection.specs.Embeddings.{Selects}
-use Rattle.selection.specs.Rows.{Row}
-use Rattle.selection.specs.Ways.{selected}
-use Rattle.selection.specs.Operations.{fits}
-use Rattle.bare.specs.Bare.{plainCheck}
-use Rattle.plain.specs.Plain.{PlainRead}
-use Rattle.readable.specs.Readable.{readCheck}
-use Rattle.reading.specs.Reading.{Read}
-use Rattle.updating.specs.Updating.{deleteCheck, insertCheck, Delete, Insert}
-use Rattle.outcomes.specs.declared.updates.Deleted.the-variants as deleted
-use Rattle.outcomes.specs.declared.updates.Inserted.the-variants as inserted
-use Rattle.conflict.specs.Conflict.{Update, delete, insert, pattern, after as after-update, UpdateBits, Witness, Conflict, Deep, SmallestWitness, Chain}
-use Rattle.admission.specs.Order.{verdictCheck, deepCheck}
-use Rattle.verdict.specs.Promise.{NodeVerdict, witnessNodes}
-use Rattle.deep.specs.Promise.{DeepVerdict}
-use Rattle.outcomes.specs.declared.verdicts.Verdict.{Verdict}
-use Rattle.outcomes.specs.declared.verdicts.Verdict.the-variants as verdict
-use Rattle.outcomes.specs.declared.verdicts.Deeply.the-variants as deep
-use Rattle.marked.specs.Marked.{Marked}
-use Rattle.order.specs.Frames.{Frame, At, read, update, earlier, number}
-use Rattle.order.specs.Order.{Stands, Before, own}
-use Rattle.calls.specs.Calls.{Reply, Called, called, Run, Has, Runs, NoRoom, Works, SameRuns}
-use Rattle.walking.specs.Walking.{walkCheck, stepAt, placeAfter, numberAfter}
-use Rattle.outcomes.specs.declared.frames.Stepped.the-variants as walker
-use Rattle.batches.specs.Batches.{batchOf, batchCheck, planCheck}
-use Rattle.batch.specs.Batch.{Plan, SlotIs}
-use Rattle.outcomes.specs.declared.plans.Planned.the-variants as planned
-use Rattle.digits.specs.Digits.{wordsOf, lineOf}
-use Rattle.lines.specs.Lines.{lineCheck, ReadAs}
-use Rattle.outcomes.specs.declared.texts.Parsed.the-variants as parsed
-use Rattle.spelling.specs.Spelling.{WrittenAs}
-use Rattle.outcomes.specs.declared.texts.Spelled.the-variants as spelled
-use Rattle.printer.specs.Printer.{Lines, stopped, Prints, PrintedAs}
-use Rattle.printer.specs.Enough.{printedMost, inputMost}
-use Rattle.outcomes.specs.declared.texts.Printed.{Printed}
-use Rattle.outcomes.specs.declared.texts.Printed.the-variants as printed
-use Rattle.demands.specs.Updates.{DeletedBy, InsertedBy}
+-- Told says that an exported function returns the numbers of an answer that meets such a promise. Demands/Names.antt says where each name of this page
+-- is defined, and which function makes each promise.
+mod Names
+use Names.*
 
 -- one of the thirteen refusals
 pub record Numbered (r : Refusal) : Type 0 where
