@@ -2,3 +2,6 @@
 pub mod Given
 pub mod Branches
 pub mod Laws
+pub mod Bad
+pub mod Alone
+pub mod Walk
