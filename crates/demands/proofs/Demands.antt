@@ -44,6 +44,7 @@ use Rattle.calls.proofs.Callable.{accepted-callable}
 use Rattle.calls.proofs.Running.{run-has, run-works, run-room, run-some}
 use Rattle.calls.proofs.Same.{wider-runs}
 use Rattle.walking.proofs.Laws.{refused-stays, over-stays}
+use Rattle.walking.proofs.Walk.{parts-join, walk-frames, walk-over, walk-whole, walk-before, walk-refused}
 use Rattle.digits.specs.Digits.{wordsOf, lineOf}
 use Rattle.digits.proofs.Returning.{length-wordsOf, length-lineOf}
 use Rattle.printer.proofs.Settled.{printed-one}
@@ -149,6 +150,11 @@ besides =
       readings = readings-agree;
       walker-refused = λ b n at why h. refused-stays b n at h;
       walker-over = λ b n at h. over-stays b n at h;
+      walk-frames = walk-frames;
+      walk-over = λ b fine k h. (walk-over b fine k h, walk-whole b fine k h);
+      walk-before = λ b why refused. walk-before b refused;
+      walk-refused = λ b why refused. walk-refused b refused;
+      walk-parts = parts-join;
       clear-stays = λ r u before after h. h .kept;
       witness-behind = λ r u before after n h. (h .long, h .behind);
       marks-behind = λ p d marks n h. (delete-length p d h, delete-behind p d h);

@@ -134,6 +134,14 @@ pub record Besides : Type 0 where
   -- the walker stays at a bad frame and at its end
   pub walker-refused : (b : List ℕ) (n at : ℕ) (why : Refusal) → stepAt b n at ≡ walker.Refused why → stepAt b (numberAfter b n at) (placeAfter b n at) ≡ walker.Refused why
   pub walker-over : (b : List ℕ) (n at : ℕ) → stepAt b n at ≡ walker.Over → stepAt b (numberAfter b n at) (placeAfter b n at) ≡ walker.Over
+  -- a walk from the front, its calls counted from 0: of an accepted batch call k gives frame k as its part of the batch; behind the last frame none is left, and the parts are the whole batch
+  pub walk-frames : (b : List ℕ) → batchCheck b ≡ Fine → (k : ℕ) → k < length (batchOf b) → GivesFrame b k
+  pub walk-over : (b : List ℕ) → batchCheck b ≡ Fine → (k : ℕ) → length (batchOf b) ≤ k → (callGives b k ≡ walker.Over) × (firstParts b k ≡ b)
+  -- of a refused one each frame before the bad one, and from there on its refusal at every call: the refusal's place is the bad frame, 0 for too many words
+  pub walk-before : (b : List ℕ) (why : Refusal) → batchCheck b ≡ Refused why → (k : ℕ) → k < why .place → GivesFrame b k
+  pub walk-refused : (b : List ℕ) (why : Refusal) → batchCheck b ≡ Refused why → (k : ℕ) → why .place ≤ k → callGives b k ≡ walker.Refused why
+  -- before every call the parts so far are the batch up to its place
+  pub walk-parts : (b : List ℕ) (k : ℕ) → firstParts b k ≡ take (callPlace b k) b
   -- with no conflict every output word stays, and behind any result all stays: behind a witness, a plan, marks, words and bytes
   pub clear-stays : (r : List ℕ) (u : Update) (before after : List ℕ) → NodeVerdict r u before after verdict.Clear → after ≡ before
   pub witness-behind : (r : List ℕ) (u : Update) (before after : List ℕ) (n : ℕ) → NodeVerdict r u before after (verdict.Conflict n) →

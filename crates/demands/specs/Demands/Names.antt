@@ -48,6 +48,7 @@ pub use Rattle.marked.specs.Marked.{Marked}
 -- batches: stepAt is promised by the walker's next and by step, placeAfter and numberAfter by its moved, Plan by plan
 pub use Rattle.order.specs.Frames.{Frame, At, read, update, earlier, number}
 pub use Rattle.walking.specs.Walking.{walkCheck, stepAt, placeAfter, numberAfter}
+pub use Rattle.walking.specs.Walk.{callPlace, callGives, firstParts, GivesFrame}
 pub use Rattle.outcomes.specs.declared.frames.Stepped.the-variants as walker
 pub use Rattle.batches.specs.Batches.{batchOf, batchCheck, planCheck}
 pub use Rattle.batch.specs.Batch.{Plan, SlotIs}
