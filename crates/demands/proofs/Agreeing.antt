@@ -13,11 +13,11 @@ use Rattle.tables.proofs.Soundness.{accepted-pattern, accepted-tree, accepted-d
 use Rattle.selection.proofs.Presence.{is-present}
 use Rattle.selection.proofs.Rows.{same-bit}
 use Rattle.selection.proofs.Selecting.{selects-by-labels}
-use Rattle.bare.specs.Bare.{plainCheck}
-use Rattle.plain.specs.Plain.{PlainRead}
-use Rattle.readable.specs.Readable.{readCheck}
-use Rattle.reading.specs.Reading.{Read}
-use Rattle.reading.proofs.Laws.{read-selects}
+use Rattle.check_plain.specs.Bare.{plainCheck}
+use Rattle.doc_plain.specs.Plain.{PlainRead}
+use Rattle.check_read.specs.Readable.{readCheck}
+use Rattle.doc_read.specs.Reading.{Read}
+use Rattle.doc_read.proofs.Laws.{read-selects}
 
 pub readings-agree : (p t marks : List ℕ) → Bits16 t → ((v : ℕ) → v < nodes t → getD marks v 0 ≡ 0) → (table : ℕ) (before row before′ plain : List ℕ) →
     Read p table (doc t marks (nodes t)) before row Fine → PlainRead p t before′ plain Fine → (v : ℕ) → v < nodes t → getD row v 0 ≡ getD plain v 0

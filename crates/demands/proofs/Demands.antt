@@ -13,19 +13,19 @@ use Rattle.tables.specs.Documents.{Doc, doc}
 use Rattle.tables.specs.declared.refusal.Checked.the-variants.{Fine}
 use Rattle.tables.proofs.Accepted.{never, then-first}
 use Rattle.tables.proofs.Soundness.{accepted-pattern, accepted-document, accepted-tree}
-use Rattle.reading.proofs.Laws.{read-selects}
+use Rattle.doc_read.proofs.Laws.{read-selects}
 use Rattle.selection.specs.Operations.{copies}
 use Rattle.selection.proofs.Selecting.{selecting}
-use Rattle.updating.specs.Updating.{deleteCheck, insertCheck, Delete, Insert}
+use Rattle.doc_updates.specs.Updating.{deleteCheck, insertCheck, Delete, Insert}
 use Rattle.outcomes.specs.declared.updates.Deleted.the-variants as deleted
 use Rattle.outcomes.specs.declared.updates.Inserted.the-variants as inserted
-use Rattle.updating.proofs.Accepted.{delete-document, delete-pattern, insert-document, insert-pattern, insert-tree}
-use Rattle.updating.proofs.Deletes.{delete-fine, delete-doc, delete-count, delete-behind, delete-length}
-use Rattle.updating.proofs.Inserts.{insert-fine, insert-number, insert-doc, insert-words-behind, insert-marks-behind, insert-rows-length, insert-marks-length}
+use Rattle.doc_updates.proofs.Accepted.{delete-document, delete-pattern, insert-document, insert-pattern, insert-tree}
+use Rattle.doc_updates.proofs.Deletes.{delete-fine, delete-doc, delete-count, delete-behind, delete-length}
+use Rattle.doc_updates.proofs.Inserts.{insert-fine, insert-number, insert-doc, insert-words-behind, insert-marks-behind, insert-rows-length, insert-marks-length}
 use Rattle.conflict.specs.Conflict.{Update, UpdateBits, delete, insert, Conflict, SmallestWitness, Chain}
 use Rattle.conflict.proofs.Chained.{decided-chain}
-use Rattle.admission.specs.Order.{verdictCheck, deepCheck}
-use Rattle.ways.proofs.Deciding.{delete-deciding, insert-deciding}
+use Rattle.check_verdict.specs.Order.{verdictCheck, deepCheck}
+use Rattle.verdict_ways.proofs.Deciding.{delete-deciding, insert-deciding}
 use Rattle.verdict.specs.Promise.{NodeVerdict, witnessNodes}
 use Rattle.outcomes.specs.declared.verdicts.Verdict.{Verdict}
 use Rattle.outcomes.specs.declared.verdicts.Verdict.the-variants as verdict
@@ -34,22 +34,22 @@ use Rattle.order.specs.Order.{own}
 use Rattle.order.specs.Model.{Order}
 use Rattle.order.proofs.Own.{own-order}
 use Rattle.order.proofs.Deciding.{conflicting, conflicting-decides}
-use Rattle.batches.specs.Batches.{batchOf, batchCheck, planCheck}
-use Rattle.batches.proofs.Frames.{accepted-fits}
-use Rattle.batch.specs.Batch.{Plan}
+use Rattle.batch_check.specs.Batches.{batchOf, batchCheck, planCheck}
+use Rattle.batch_check.proofs.Frames.{accepted-fits}
+use Rattle.batch_plan.specs.Batch.{Plan}
 use Rattle.outcomes.specs.declared.plans.Planned.the-variants as planned
-use Rattle.batch.proofs.Laws.{accepted-slot, same-slot}
-use Rattle.calls.proofs.Accepting.{Accepted}
-use Rattle.calls.proofs.Callable.{accepted-callable}
-use Rattle.calls.proofs.Running.{run-has, run-works, run-room, run-some}
-use Rattle.calls.proofs.Same.{wider-runs}
-use Rattle.walking.proofs.Laws.{refused-stays, over-stays}
-use Rattle.walking.proofs.Walk.{parts-join, walk-frames, walk-over, walk-whole, walk-before, walk-refused}
-use Rattle.digits.specs.Digits.{wordsOf, lineOf}
-use Rattle.digits.proofs.Returning.{length-wordsOf, length-lineOf}
-use Rattle.printer.proofs.Settled.{printed-one}
-use Rattle.printer.proofs.Enough.{room-enough}
-use Rattle.printer.proofs.Behind.{prints-first}
+use Rattle.batch_plan.proofs.Laws.{accepted-slot, same-slot}
+use Rattle.order_calls.proofs.Accepting.{Accepted}
+use Rattle.order_calls.proofs.Callable.{accepted-callable}
+use Rattle.order_calls.proofs.Running.{run-has, run-works, run-room, run-some}
+use Rattle.order_calls.proofs.Same.{wider-runs}
+use Rattle.batch_walk.proofs.Laws.{refused-stays, over-stays}
+use Rattle.batch_walk.proofs.Walk.{parts-join, walk-frames, walk-over, walk-whole, walk-before, walk-refused}
+use Rattle.text_digits.specs.Digits.{wordsOf, lineOf}
+use Rattle.text_digits.proofs.Returning.{length-wordsOf, length-lineOf}
+use Rattle.text_printer.proofs.Settled.{printed-one}
+use Rattle.text_printer.proofs.Enough.{room-enough}
+use Rattle.text_printer.proofs.Behind.{prints-first}
 use Rattle.demands.specs.Demands.{DemandOne, DemandTwo, Keeps, Start, DemandThree, Besides}
 use Rattle.demands.proofs.Thirteen.{stops}
 use Rattle.demands.proofs.Orders as orders

@@ -19,12 +19,12 @@ use Rattle.order.specs.Frames.{Frame, read, update, At, here, there, updatesAt,
 use Rattle.order.proofs.Own.{read-first}
 use Rattle.order.proofs.Places.{at-below}
 use Rattle.order.proofs.Deciding.{conflicting}
-use Rattle.parts.specs.Parts.{countCheck, stepsCheck}
-use Rattle.frames.specs.Frames.{kindRight, restCheck, frameCheck, endOf}
-use Rattle.batches.specs.Batches.{updateOf, meaning, framesFrom, batchOf, checkFrom, batchCheck, planCheck}
-use Rattle.batch.specs.Batch.{SlotIs, WordIs, Plan}
+use Rattle.batch_parts.specs.Parts.{countCheck, stepsCheck}
+use Rattle.batch_frame.specs.Frames.{kindRight, restCheck, frameCheck, endOf}
+use Rattle.batch_check.specs.Batches.{updateOf, meaning, framesFrom, batchOf, checkFrom, batchCheck, planCheck}
+use Rattle.batch_plan.specs.Batch.{SlotIs, WordIs, Plan}
 use Rattle.outcomes.specs.declared.plans.Planned.the-variants as planned
-use Rattle.batch.proofs.Laws.{accepted-slot}
+use Rattle.batch_plan.proofs.Laws.{accepted-slot}
 use Rattle.demands.specs.Demands.{Keeps, Start, example}
 use Rattle.demands.proofs.Keeping.{order-keeps}
 

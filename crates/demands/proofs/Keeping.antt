@@ -7,10 +7,10 @@ use Rattle.tables.specs.declared.refusal.Checked.the-variants.{Fine}
 use Rattle.tables.proofs.Accepted.{then-first}
 use Rattle.order.specs.Model.{Order}
 use Rattle.order.proofs.Deciding.{conflicting}
-use Rattle.batches.specs.Batches.{batchOf, batchCheck, planCheck}
-use Rattle.batch.specs.Batch.{Plan}
+use Rattle.batch_check.specs.Batches.{batchOf, batchCheck, planCheck}
+use Rattle.batch_plan.specs.Batch.{Plan}
 use Rattle.outcomes.specs.declared.plans.Planned.the-variants as planned
-use Rattle.batch.proofs.Laws.{accepted-slot}
+use Rattle.batch_plan.proofs.Laws.{accepted-slot}
 use Rattle.demands.specs.Demands.{Keeps}
 
 module _ (b before plan : List ℕ) (n : ℕ) (words : Bits16 b) (h : Plan b before plan (planned.Frames n)) where

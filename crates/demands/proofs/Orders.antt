@@ -12,44 +12,44 @@ use Rattle.tables.specs.declared.refusal.Refusal.{Refusal}
 use Rattle.tables.specs.declared.refusal.Checked.{Checked}
 use Rattle.tables.specs.declared.refusal.Checked.the-variants.{Fine, Refused}
 use Rattle.tables.proofs.Accepted.{never}
-use Rattle.answers.specs.declared.answer.Answer.{Answer}
-use Rattle.answers.specs.Answers.{refusing, Told}
-use Rattle.numbers.specs.Numbers.{ofChecked, ofDeleted, ofInserted, ofVerdict, ofDeeply}
-use Rattle.batch_numbers.specs.Numbers.{ofStepped, ofPlanned, ofParsed, ofSpelled, ofPrinted}
-use Rattle.bare.specs.Bare.{plainCheck}
-use Rattle.plain.specs.Plain.{PlainRead, RowAfter}
-use Rattle.readable.specs.Readable.{readCheck}
-use Rattle.reading.specs.Reading.{Read}
-use Rattle.updating.specs.Updating.{deleteCheck, insertCheck, Delete, Insert}
-use Rattle.updating.proofs.Deletes.{delete-same}
-use Rattle.updating.proofs.Inserts.{insert-same}
-use Rattle.updating.proofs.Accepted.{removed-fine, kept-told, copied-fine, refused-told}
+use Rattle.c_answer.specs.declared.answer.Answer.{Answer}
+use Rattle.c_answer.specs.Answers.{refusing, Told}
+use Rattle.c_numbers.specs.Numbers.{ofChecked, ofDeleted, ofInserted, ofVerdict, ofDeeply}
+use Rattle.c_batch_numbers.specs.Numbers.{ofStepped, ofPlanned, ofParsed, ofSpelled, ofPrinted}
+use Rattle.check_plain.specs.Bare.{plainCheck}
+use Rattle.doc_plain.specs.Plain.{PlainRead, RowAfter}
+use Rattle.check_read.specs.Readable.{readCheck}
+use Rattle.doc_read.specs.Reading.{Read}
+use Rattle.doc_updates.specs.Updating.{deleteCheck, insertCheck, Delete, Insert}
+use Rattle.doc_updates.proofs.Deletes.{delete-same}
+use Rattle.doc_updates.proofs.Inserts.{insert-same}
+use Rattle.doc_updates.proofs.Accepted.{removed-fine, kept-told, copied-fine, refused-told}
 use Rattle.outcomes.specs.declared.updates.Deleted.{Deleted}
 use Rattle.outcomes.specs.declared.updates.Deleted.the-variants as deleted
 use Rattle.outcomes.specs.declared.updates.Inserted.{Inserted}
 use Rattle.outcomes.specs.declared.updates.Inserted.the-variants as inserted
 use Rattle.conflict.specs.Conflict.{Update}
-use Rattle.admission.specs.Order.{verdictCheck, deepCheck}
+use Rattle.check_verdict.specs.Order.{verdictCheck, deepCheck}
 use Rattle.verdict.specs.Promise.{NodeVerdict}
-use Rattle.deep.specs.Promise.{DeepVerdict}
+use Rattle.verdict_deep.specs.Promise.{DeepVerdict}
 use Rattle.outcomes.specs.declared.verdicts.Verdict.{Verdict}
 use Rattle.outcomes.specs.declared.verdicts.Verdict.the-variants as verdict
 use Rattle.outcomes.specs.declared.verdicts.Deeply.{Deeply}
 use Rattle.outcomes.specs.declared.verdicts.Deeply.the-variants as deep
-use Rattle.frames.specs.Frames.{frameCheck, frameOf, answered, frameAt}
-use Rattle.walking.specs.Walking.{answerOf, walkCheck, stepAt}
+use Rattle.batch_frame.specs.Frames.{frameCheck, frameOf, answered, frameAt}
+use Rattle.batch_walk.specs.Walking.{answerOf, walkCheck, stepAt}
 use Rattle.outcomes.specs.declared.frames.Stepped.the-variants as walker
-use Rattle.batches.specs.Batches.{planCheck}
-use Rattle.batch.specs.Batch.{Plan}
+use Rattle.batch_check.specs.Batches.{planCheck}
+use Rattle.batch_plan.specs.Batch.{Plan}
 use Rattle.outcomes.specs.declared.plans.Planned.{Planned}
 use Rattle.outcomes.specs.declared.plans.Planned.the-variants as planned
-use Rattle.lines.specs.Lines.{lineCheck, ReadAs}
+use Rattle.text_line_in.specs.Lines.{lineCheck, ReadAs}
 use Rattle.outcomes.specs.declared.texts.Parsed.{Parsed}
 use Rattle.outcomes.specs.declared.texts.Parsed.the-variants as parsed
-use Rattle.spelling.specs.Spelling.{WrittenAs}
+use Rattle.text_line_out.specs.Spelling.{WrittenAs}
 use Rattle.outcomes.specs.declared.texts.Spelled.{Spelled}
 use Rattle.outcomes.specs.declared.texts.Spelled.the-variants as spelled
-use Rattle.printer.specs.Printer.{PrintedAs}
+use Rattle.text_printer.specs.Printer.{PrintedAs}
 use Rattle.outcomes.specs.declared.texts.Printed.{Printed}
 use Rattle.outcomes.specs.declared.texts.Printed.the-variants as printed
 use Rattle.demands.specs.Demands.{Numbered, ByOrder, Nothing}

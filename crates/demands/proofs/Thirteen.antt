@@ -11,16 +11,16 @@ use Rattle.tables.specs.declared.refusal.Refusal.{Refusal}
 use Rattle.tables.specs.declared.refusal.Checked.{Checked}
 use Rattle.tables.specs.declared.refusal.Checked.the-variants.{Fine, Refused}
 use Rattle.tables.specs.Checks.{refuse, _then_, test, each, sizeCheck, axisCheck, patternCheck, nodeCheck, treeCheck, usedCheck, markCheck, documentCheck, outputCheck}
-use Rattle.parts.specs.Parts.{placed, countCheck, stepsCheck, nodesCheck}
-use Rattle.frames.specs.Frames.{restCheck, frameCheck, endOf}
-use Rattle.bare.specs.Bare.{plainCheck}
-use Rattle.readable.specs.Readable.{readCheck}
-use Rattle.updating.specs.Updating as updating
+use Rattle.batch_parts.specs.Parts.{placed, countCheck, stepsCheck, nodesCheck}
+use Rattle.batch_frame.specs.Frames.{restCheck, frameCheck, endOf}
+use Rattle.check_plain.specs.Bare.{plainCheck}
+use Rattle.check_read.specs.Readable.{readCheck}
+use Rattle.doc_updates.specs.Updating as updating
 use Rattle.conflict.specs.Conflict.{Update, delete, insert}
-use Rattle.admission.specs.Order.{roomCheck, patternsCheck, deepDeleteCheck, deepInsertCheck, deleteVerdictCheck, insertVerdictCheck, deepCheck, verdictCheck}
-use Rattle.batches.specs.Batches.{checkFrom, batchCheck, planCheck}
-use Rattle.lines.specs.Lines.{characterCheck, lineCheck}
-use Rattle.printer.specs.Printer.{takeCheck, Lines, bad, good, stopped}
+use Rattle.check_verdict.specs.Order.{roomCheck, patternsCheck, deepDeleteCheck, deepInsertCheck, deleteVerdictCheck, insertVerdictCheck, deepCheck, verdictCheck}
+use Rattle.batch_check.specs.Batches.{checkFrom, batchCheck, planCheck}
+use Rattle.text_line_in.specs.Lines.{characterCheck, lineCheck}
+use Rattle.text_printer.specs.Printer.{takeCheck, Lines, bad, good, stopped}
 use Rattle.demands.specs.Demands.{Numbered}
 
 -- a check gives no other refusal

@@ -2,7 +2,7 @@
 use Prim.Native.Nat.{ℕ, _≤_}
 use mathlib.Core.List.{List}
 use lib.ListN.{length, take}
-use Rattle.printer.specs.Printer.{Prints}
+use Rattle.text_printer.specs.Printer.{Prints}
 use Rattle.plan.specs.declared.Input.{Input}
 use Rattle.plan.specs.declared.Input.the-variants.{Failed, Bytes}
 

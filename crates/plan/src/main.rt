@@ -3,14 +3,14 @@ use libc::STDERR_FILENO;
 use libc::STDIN_FILENO;
 use libc::STDOUT_FILENO;
 use outcomes::texts::Printed;
-use printer::print;
 use tables::limits::BATCH_LIMIT;
 use tables::limits::DIGIT_LIMIT;
 use tables::limits::FRAME_LIMIT;
+use text_printer::print;
 ghost use Prim.Native.Nat.{_≤_};
 ghost use mathlib.Core.Path.{_≡_};
 ghost use lib.ListN.{length};
-ghost use Rattle.printer.specs.Enough.{printedMost, inputMost};
+ghost use Rattle.text_printer.specs.Enough.{printedMost, inputMost};
 ghost use Rattle.plan.specs.Plan.{TextAt, Within};
 
 // The input that counts: lines that are taken, and behind them one digit more than a line may have.

@@ -4,31 +4,31 @@ use mathlib.Core.Path.{_≡_, refl, sym, ap, subst, _∙_}
 use mathlib.Core.List.{List}
 use lib.ListN.{drop}
 use Rattle.tables.specs.Documents.{Doc}
-use Rattle.plain.specs.Plain.{PlainRead}
-use Rattle.plain.proofs.Promise.{plain-one}
-use Rattle.reading.specs.Reading.{Read}
-use Rattle.reading.proofs.Laws.{read-one}
-use Rattle.updating.specs.Updating.{Delete, Insert}
-use Rattle.updating.proofs.Settled.{delete-one, insert-one}
+use Rattle.doc_plain.specs.Plain.{PlainRead}
+use Rattle.doc_plain.proofs.Promise.{plain-one}
+use Rattle.doc_read.specs.Reading.{Read}
+use Rattle.doc_read.proofs.Laws.{read-one}
+use Rattle.doc_updates.specs.Updating.{Delete, Insert}
+use Rattle.doc_updates.proofs.Settled.{delete-one, insert-one}
 use Rattle.conflict.specs.Conflict.{Update}
 use Rattle.outcomes.specs.declared.verdicts.Verdict.{Verdict}
 use Rattle.outcomes.specs.declared.verdicts.Verdict.the-variants as verdict
 use Rattle.verdict.specs.Promise.{NodeVerdict, witnessNodes}
 use Rattle.verdict.proofs.Promise.{verdict-one}
-use Rattle.deep.specs.Promise.{DeepVerdict}
-use Rattle.deep.proofs.Promise.{deep-one}
-use Rattle.batch.specs.Batch.{Plan}
-use Rattle.batch.proofs.Laws.{plan-one}
-use Rattle.lines.specs.Lines.{ReadAs}
-use Rattle.lines.proofs.Promise.{read-one as line-one}
-use Rattle.spelling.specs.Spelling.{WrittenAs}
-use Rattle.spelling.proofs.Promise.{write-one}
-use Rattle.printer.specs.Printer.{PrintedAs}
-use Rattle.printer.proofs.Settled.{printed-one}
-use Rattle.answers.specs.Answers.{Told}
-use Rattle.numbers.specs.Numbers.{ofChecked, ofDeleted, ofInserted, ofVerdict, ofDeeply}
-use Rattle.batch_numbers.specs.Numbers.{ofPlanned, ofParsed, ofSpelled, ofPrinted}
-use Rattle.answers.specs.declared.answer.Answer.{Answer}
+use Rattle.verdict_deep.specs.Promise.{DeepVerdict}
+use Rattle.verdict_deep.proofs.Promise.{deep-one}
+use Rattle.batch_plan.specs.Batch.{Plan}
+use Rattle.batch_plan.proofs.Laws.{plan-one}
+use Rattle.text_line_in.specs.Lines.{ReadAs}
+use Rattle.text_line_in.proofs.Promise.{read-one as line-one}
+use Rattle.text_line_out.specs.Spelling.{WrittenAs}
+use Rattle.text_line_out.proofs.Promise.{write-one}
+use Rattle.text_printer.specs.Printer.{PrintedAs}
+use Rattle.text_printer.proofs.Settled.{printed-one}
+use Rattle.c_answer.specs.Answers.{Told}
+use Rattle.c_numbers.specs.Numbers.{ofChecked, ofDeleted, ofInserted, ofVerdict, ofDeeply}
+use Rattle.c_batch_numbers.specs.Numbers.{ofPlanned, ofParsed, ofSpelled, ofPrinted}
+use Rattle.c_answer.specs.declared.answer.Answer.{Answer}
 
 -- where the promises settle the answer and something more by its numbers, so do the numbers
 told-one : {E : Type 0} {numbers : E → Answer} {P Q : E → Type 0} (more : Answer → Type 0) {a b : Answer} →

@@ -1,14 +1,14 @@
 // Walking a batch, and its plan.
-use answers::answer::Answer;
-use batch::plan::plan;
-use batch_numbers::planned;
-use batch_numbers::stepped;
-use walking::step;
+use batch_plan::plan::plan;
+use batch_walk::step;
+use c_answer::answer::Answer;
+use c_batch_numbers::planned;
+use c_batch_numbers::stepped;
 ghost use mathlib.Core.Path.{_≡_};
-ghost use Rattle.walking.specs.Walking.{stepAt};
-ghost use Rattle.batch.specs.Batch.{Plan};
-ghost use Rattle.answers.specs.Answers.{Told};
-ghost use Rattle.batch_numbers.specs.Numbers.{ofStepped, ofPlanned};
+ghost use Rattle.batch_walk.specs.Walking.{stepAt};
+ghost use Rattle.batch_plan.specs.Batch.{Plan};
+ghost use Rattle.c_answer.specs.Answers.{Told};
+ghost use Rattle.c_batch_numbers.specs.Numbers.{ofStepped, ofPlanned};
 
 // Frame n at a place of the batch. First: its kind, 0 where none is left; second: where it ends; third: its steps; fourth: its nodes.
 #[no_mangle]

@@ -1,13 +1,13 @@
 // The checks of patterns, trees and documents. None has a value.
-use answers::answer::Answer;
-use documents::document;
-use numbers::checked;
-use patterns::pattern;
-use trees::tree;
+use c_answer::answer::Answer;
+use c_numbers::checked;
+use check_document::document;
+use check_pattern::pattern;
+use check_tree::tree;
 ghost use mathlib.Core.Path.{_≡_};
 ghost use Rattle.tables.specs.Documents.{doc};
 ghost use Rattle.tables.specs.Checks.{patternCheck, treeCheck, documentCheck};
-ghost use Rattle.numbers.specs.Numbers.{ofChecked};
+ghost use Rattle.c_numbers.specs.Numbers.{ofChecked};
 
 // A pattern of at most `limit` steps: refusals 1, 2, 3, at this table.
 #[no_mangle]

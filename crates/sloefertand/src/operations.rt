@@ -1,18 +1,18 @@
 // Reading and updating a document.
-use answers::answer::Answer;
-use deleting::delete;
-use inserting::insert;
-use numbers::checked;
-use numbers::deleted;
-use numbers::inserted;
-use plain::plain_reading;
-use reading::read::read;
+use c_answer::answer::Answer;
+use c_numbers::checked;
+use c_numbers::deleted;
+use c_numbers::inserted;
+use doc_delete::delete;
+use doc_insert::insert;
+use doc_plain::plain_reading;
+use doc_read::read::read;
 ghost use Rattle.tables.specs.Documents.{doc};
-ghost use Rattle.reading.specs.Reading.{Read};
-ghost use Rattle.plain.specs.Plain.{PlainRead};
-ghost use Rattle.updating.specs.Updating.{Delete, Insert};
-ghost use Rattle.answers.specs.Answers.{Told};
-ghost use Rattle.numbers.specs.Numbers.{ofChecked, ofDeleted, ofInserted};
+ghost use Rattle.doc_read.specs.Reading.{Read};
+ghost use Rattle.doc_plain.specs.Plain.{PlainRead};
+ghost use Rattle.doc_updates.specs.Updating.{Delete, Insert};
+ghost use Rattle.c_answer.specs.Answers.{Told};
+ghost use Rattle.c_numbers.specs.Numbers.{ofChecked, ofDeleted, ofInserted};
 
 // Read: one byte a used node, 1 if the pattern selects it, else 0. No value.
 #[no_mangle]

@@ -1,16 +1,16 @@
 // Lines of hexadecimal digits, and the printed plan.
-use answers::answer::Answer;
-use batch_numbers::parsed;
-use batch_numbers::printed;
-use batch_numbers::spelled;
-use lines::read_line;
-use printer::print;
-use spelling::write_line;
-ghost use Rattle.lines.specs.Lines.{ReadAs};
-ghost use Rattle.spelling.specs.Spelling.{WrittenAs};
-ghost use Rattle.printer.specs.Printer.{PrintedAs};
-ghost use Rattle.answers.specs.Answers.{Told};
-ghost use Rattle.batch_numbers.specs.Numbers.{ofParsed, ofSpelled, ofPrinted};
+use c_answer::answer::Answer;
+use c_batch_numbers::parsed;
+use c_batch_numbers::printed;
+use c_batch_numbers::spelled;
+use text_line_in::read_line;
+use text_line_out::write_line;
+use text_printer::print;
+ghost use Rattle.text_line_in.specs.Lines.{ReadAs};
+ghost use Rattle.text_line_out.specs.Spelling.{WrittenAs};
+ghost use Rattle.text_printer.specs.Printer.{PrintedAs};
+ghost use Rattle.c_answer.specs.Answers.{Told};
+ghost use Rattle.c_batch_numbers.specs.Numbers.{ofParsed, ofSpelled, ofPrinted};
 
 // From a line's bytes to its words; the line's number is its place in a refusal. First: the words.
 #[no_mangle]

@@ -1,16 +1,16 @@
 // Whether a read r and an update at p conflict.
-use answers::answer::Answer;
-use deep::deep_delete_verdict;
-use deep::deep_insert_verdict;
-use numbers::deeply;
-use numbers::judged;
+use c_answer::answer::Answer;
+use c_numbers::deeply;
+use c_numbers::judged;
 use verdict::delete_verdict;
 use verdict::insert_verdict;
+use verdict_deep::deep_delete_verdict;
+use verdict_deep::deep_insert_verdict;
 ghost use Rattle.conflict.specs.Conflict.{delete, insert};
 ghost use Rattle.verdict.specs.Promise.{NodeVerdict};
-ghost use Rattle.deep.specs.Promise.{DeepVerdict};
-ghost use Rattle.answers.specs.Answers.{Told};
-ghost use Rattle.numbers.specs.Numbers.{ofVerdict, ofDeeply};
+ghost use Rattle.verdict_deep.specs.Promise.{DeepVerdict};
+ghost use Rattle.c_answer.specs.Answers.{Told};
+ghost use Rattle.c_numbers.specs.Numbers.{ofVerdict, ofDeeply};
 
 // A read and a delete. First: the nodes of the smallest witness, which is written; 0 for no conflict.
 #[no_mangle]

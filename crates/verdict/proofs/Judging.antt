@@ -12,7 +12,7 @@ use Rattle.outcomes.specs.declared.verdicts.Verdict.{Verdict}
 use Rattle.outcomes.specs.declared.verdicts.Verdict.the-variants.{Clear, Conflict, Refused as NotJudged}
 use Rattle.conflict.specs.Crossing.{chain}
 use Rattle.verdict.specs.Verdict.{foundOf}
-use Rattle.ways.specs.Ways.{WayWritten}
+use Rattle.verdict_ways.specs.Ways.{WayWritten}
 
 -- the verdict of a check and a way, and the output after it: the way's chain at the front, where there is one; a refusal changes nothing
 unfoldable pub verdictOf : Checked → ℕ → Verdict

@@ -17,11 +17,11 @@ use Rattle.conflict.proofs.Chains.{length-chain, nodes-chain}
 use Rattle.conflict.proofs.Smallest.{smallest}
 use Rattle.outcomes.specs.declared.verdicts.Verdict.{Verdict}
 use Rattle.outcomes.specs.declared.verdicts.Verdict.the-variants.{Clear, Conflict as Found, Refused as NotJudged}
-use Rattle.admission.specs.Order.{verdictCheck, deleteVerdictCheck, insertVerdictCheck}
+use Rattle.check_verdict.specs.Order.{verdictCheck, deleteVerdictCheck, insertVerdictCheck}
 use Rattle.verdict.specs.Promise.{NodeVerdict, witnessNodes}
 use Rattle.verdict.specs.Verdict.{foundOf}
-use Rattle.admission.proofs.Accepting.{delete-deep, delete-room, insert-deep, insert-room}
-use Rattle.ways.proofs.Deciding.{Deciding, delete-deciding, insert-deciding}
+use Rattle.check_verdict.proofs.Accepting.{delete-deep, delete-room, insert-deep, insert-room}
+use Rattle.verdict_ways.proofs.Deciding.{Deciding, delete-deciding, insert-deciding}
 use Rattle.verdict.proofs.Judging.{verdictOf, outputOf, Judged}
 
 module _ (r : List ℕ) (u : Update) (before : List ℕ) where

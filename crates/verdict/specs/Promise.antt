@@ -9,7 +9,7 @@ use Rattle.tables.specs.declared.refusal.Checked.the-variants.{Fine, Refused}
 use Rattle.conflict.specs.Conflict.{Update, pattern, Witness, Conflict}
 use Rattle.outcomes.specs.declared.verdicts.Verdict.{Verdict}
 use Rattle.outcomes.specs.declared.verdicts.Verdict.the-variants.{Clear, Conflict as Found, Refused as NotJudged}
-use Rattle.admission.specs.Order.{verdictCheck}
+use Rattle.check_verdict.specs.Order.{verdictCheck}
 
 -- refused: the order gives this refusal, and the output is as it was
 pub record IsRefused (r : List ℕ) (u : Update) (before after : List ℕ) (why : Refusal) : Type 0 where

@@ -1,10 +1,10 @@
 // The verdict: whether a read and an update conflict, with a smallest witness.
-use admission::delete_check;
-use admission::insert_check;
+use check_verdict::delete_check;
+use check_verdict::insert_check;
 use outcomes::verdicts::Verdict;
 use tables::refusal::Checked;
-use ways::delete_way;
-use ways::insert_way;
+use verdict_ways::delete_way;
+use verdict_ways::insert_way;
 ghost use mathlib.Core.Path.{_≡_};
 ghost use Rattle.conflict.specs.Conflict.{delete, insert};
 ghost use Rattle.verdict.specs.Promise.{NodeVerdict};

@@ -17,10 +17,10 @@ pub use Rattle.tables.specs.declared.refusal.Checked.{Checked}
 pub use Rattle.tables.specs.declared.refusal.Checked.the-variants.{Fine, Refused}
 pub use Rattle.tables.specs.Checks.{_then_, outputCheck, patternCheck, treeCheck, documentCheck}
 -- the numbers that go out to C: what each exported function returns
-pub use Rattle.answers.specs.declared.answer.Answer.{Answer}
-pub use Rattle.answers.specs.Answers.{refusing, Told}
-pub use Rattle.numbers.specs.Numbers.{ofChecked, ofDeleted, ofInserted, ofVerdict, ofDeeply}
-pub use Rattle.batch_numbers.specs.Numbers.{ofStepped, ofPlanned, ofParsed, ofSpelled, ofPrinted}
+pub use Rattle.c_answer.specs.declared.answer.Answer.{Answer}
+pub use Rattle.c_answer.specs.Answers.{refusing, Told}
+pub use Rattle.c_numbers.specs.Numbers.{ofChecked, ofDeleted, ofInserted, ofVerdict, ofDeeply}
+pub use Rattle.c_batch_numbers.specs.Numbers.{ofStepped, ofPlanned, ofParsed, ofSpelled, ofPrinted}
 -- selection: by embeddings, in rows, computed
 pub use Rattle.selection.specs.Lists.{count}
 pub use Rattle.selection.specs.Embeddings.{Selects}
@@ -28,40 +28,40 @@ pub use Rattle.selection.specs.Rows.{Row}
 pub use Rattle.selection.specs.Ways.{selected}
 pub use Rattle.selection.specs.Operations.{fits}
 -- documents: PlainRead is promised by plain_reading, Read by read, Delete by delete, Insert by insert
-pub use Rattle.bare.specs.Bare.{plainCheck}
-pub use Rattle.plain.specs.Plain.{PlainRead}
-pub use Rattle.readable.specs.Readable.{readCheck}
-pub use Rattle.reading.specs.Reading.{Read}
-pub use Rattle.updating.specs.Updating.{deleteCheck, insertCheck, Delete, Insert}
+pub use Rattle.check_plain.specs.Bare.{plainCheck}
+pub use Rattle.doc_plain.specs.Plain.{PlainRead}
+pub use Rattle.check_read.specs.Readable.{readCheck}
+pub use Rattle.doc_read.specs.Reading.{Read}
+pub use Rattle.doc_updates.specs.Updating.{deleteCheck, insertCheck, Delete, Insert}
 pub use Rattle.outcomes.specs.declared.updates.Deleted.the-variants as deleted
 pub use Rattle.outcomes.specs.declared.updates.Inserted.the-variants as inserted
 pub use Rattle.demands.specs.Updates.{DeletedBy, InsertedBy}
 -- verdicts: NodeVerdict is promised by delete_verdict and insert_verdict, DeepVerdict by deep_delete_verdict and deep_insert_verdict
 pub use Rattle.conflict.specs.Conflict.{Update, delete, insert, pattern, after as after-update, UpdateBits, Witness, Conflict, Deep, SmallestWitness, Chain}
-pub use Rattle.admission.specs.Order.{verdictCheck, deepCheck}
+pub use Rattle.check_verdict.specs.Order.{verdictCheck, deepCheck}
 pub use Rattle.verdict.specs.Promise.{NodeVerdict, witnessNodes}
-pub use Rattle.deep.specs.Promise.{DeepVerdict}
+pub use Rattle.verdict_deep.specs.Promise.{DeepVerdict}
 pub use Rattle.outcomes.specs.declared.verdicts.Verdict.{Verdict}
 pub use Rattle.outcomes.specs.declared.verdicts.Verdict.the-variants as verdict
 pub use Rattle.outcomes.specs.declared.verdicts.Deeply.the-variants as deep
 pub use Rattle.marked.specs.Marked.{Marked}
 -- batches: stepAt is promised by the walker's next and by step, placeAfter and numberAfter by its moved, Plan by plan
 pub use Rattle.order.specs.Frames.{Frame, At, read, update, earlier, number}
-pub use Rattle.walking.specs.Walking.{walkCheck, stepAt, placeAfter, numberAfter}
-pub use Rattle.walking.specs.Walk.{callPlace, callGives, firstParts, GivesFrame}
+pub use Rattle.batch_walk.specs.Walking.{walkCheck, stepAt, placeAfter, numberAfter}
+pub use Rattle.batch_walk.specs.Walk.{callPlace, callGives, firstParts, GivesFrame}
 pub use Rattle.outcomes.specs.declared.frames.Stepped.the-variants as walker
-pub use Rattle.batches.specs.Batches.{batchOf, batchCheck, planCheck}
-pub use Rattle.batch.specs.Batch.{Plan, SlotIs}
+pub use Rattle.batch_check.specs.Batches.{batchOf, batchCheck, planCheck}
+pub use Rattle.batch_plan.specs.Batch.{Plan, SlotIs}
 pub use Rattle.outcomes.specs.declared.plans.Planned.the-variants as planned
 -- orders of a batch, and a batch run call by call: when two runs give the same
 pub use Rattle.order.specs.Order.{Stands, Before, own}
-pub use Rattle.calls.specs.Calls.{Reply, Called, called, Run, Has, Runs, NoRoom, Works, SameRuns}
+pub use Rattle.order_calls.specs.Calls.{Reply, Called, called, Run, Has, Runs, NoRoom, Works, SameRuns}
 -- texts: ReadAs is promised by read_line, WrittenAs by write_line, PrintedAs by print
-pub use Rattle.lines.specs.Lines.{lineCheck, ReadAs}
+pub use Rattle.text_line_in.specs.Lines.{lineCheck, ReadAs}
 pub use Rattle.outcomes.specs.declared.texts.Parsed.the-variants as parsed
-pub use Rattle.spelling.specs.Spelling.{WrittenAs}
+pub use Rattle.text_line_out.specs.Spelling.{WrittenAs}
 pub use Rattle.outcomes.specs.declared.texts.Spelled.the-variants as spelled
-pub use Rattle.printer.specs.Printer.{Lines, stopped, Prints, PrintedAs}
-pub use Rattle.printer.specs.Enough.{printedMost, inputMost}
+pub use Rattle.text_printer.specs.Printer.{Lines, stopped, Prints, PrintedAs}
+pub use Rattle.text_printer.specs.Enough.{printedMost, inputMost}
 pub use Rattle.outcomes.specs.declared.texts.Printed.{Printed}
 pub use Rattle.outcomes.specs.declared.texts.Printed.the-variants as printed

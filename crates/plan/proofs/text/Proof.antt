@@ -1,6 +1,6 @@
 -- The room is enough, so the text lies at the front of it.
 use borrow.Author.Needs.{needs}
-use Rattle.printer.proofs.Enough.{room-enough, text-front}
+use Rattle.text_printer.proofs.Enough.{room-enough, text-front}
 use Rattle.plan.proofs.text.Statement.{statement}
 use Rattle.plan.proofs.text.Tie as tie
 

@@ -1,6 +1,6 @@
 -- The check, and where it is fine the way.
 use mathlib.Core.Path.{sym, _∙_}
-use Rattle.ways.proofs.Allowed.{granted}
+use Rattle.verdict_ways.proofs.Allowed.{granted}
 use Rattle.verdict.proofs.Judging.{judged-on, judged-off}
 use Rattle.verdict.proofs.Promise.{insert-promise}
 use native.Mathlib.Omega.{arith}

@@ -1,7 +1,7 @@
 -- The numbers of the walker's step.
 use borrow.Author.Needs.{needs}
-use Rattle.batch_numbers.specs.Numbers.{ofStepped}
-use Rattle.answers.proofs.Shown.{of-promise}
+use Rattle.c_batch_numbers.specs.Numbers.{ofStepped}
+use Rattle.c_answer.proofs.Shown.{of-promise}
 use Rattle.sloefertand.proofs.batches.sloefertand_step.Statement.{statement}
 use Rattle.sloefertand.proofs.batches.sloefertand_step.Tie as tie
 

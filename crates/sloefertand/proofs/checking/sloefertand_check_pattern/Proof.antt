@@ -1,7 +1,7 @@
 -- The numbers of the pattern's check.
 use borrow.Author.Needs.{needs}
-use Rattle.numbers.specs.Numbers.{ofChecked}
-use Rattle.answers.proofs.Shown.{of-promise}
+use Rattle.c_numbers.specs.Numbers.{ofChecked}
+use Rattle.c_answer.proofs.Shown.{of-promise}
 use Rattle.sloefertand.proofs.checking.sloefertand_check_pattern.Statement.{statement}
 use Rattle.sloefertand.proofs.checking.sloefertand_check_pattern.Tie as tie
 

@@ -1,7 +1,7 @@
 -- The numbers of a delete.
 use borrow.Author.Needs.{needs}
-use Rattle.numbers.specs.Numbers.{ofDeleted}
-use Rattle.answers.proofs.Shown.{told}
+use Rattle.c_numbers.specs.Numbers.{ofDeleted}
+use Rattle.c_answer.proofs.Shown.{told}
 use Rattle.sloefertand.proofs.operations.sloefertand_delete.Statement.{statement}
 use Rattle.sloefertand.proofs.operations.sloefertand_delete.Tie as tie
 

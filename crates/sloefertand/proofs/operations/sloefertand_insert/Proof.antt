@@ -1,7 +1,7 @@
 -- The numbers of an insert.
 use borrow.Author.Needs.{needs}
-use Rattle.numbers.specs.Numbers.{ofInserted}
-use Rattle.answers.proofs.Shown.{told}
+use Rattle.c_numbers.specs.Numbers.{ofInserted}
+use Rattle.c_answer.proofs.Shown.{told}
 use Rattle.sloefertand.proofs.operations.sloefertand_insert.Statement.{statement}
 use Rattle.sloefertand.proofs.operations.sloefertand_insert.Tie as tie
 

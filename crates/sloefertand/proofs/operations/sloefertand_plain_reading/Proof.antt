@@ -1,7 +1,7 @@
 -- The numbers of a plain reading.
 use borrow.Author.Needs.{needs}
-use Rattle.numbers.specs.Numbers.{ofChecked}
-use Rattle.answers.proofs.Shown.{told}
+use Rattle.c_numbers.specs.Numbers.{ofChecked}
+use Rattle.c_answer.proofs.Shown.{told}
 use Rattle.sloefertand.proofs.operations.sloefertand_plain_reading.Statement.{statement}
 use Rattle.sloefertand.proofs.operations.sloefertand_plain_reading.Tie as tie
 

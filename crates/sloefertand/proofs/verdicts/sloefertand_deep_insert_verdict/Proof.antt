@@ -1,7 +1,7 @@
 -- The numbers of a deep verdict on an insert.
 use borrow.Author.Needs.{needs}
-use Rattle.numbers.specs.Numbers.{ofDeeply}
-use Rattle.answers.proofs.Shown.{told}
+use Rattle.c_numbers.specs.Numbers.{ofDeeply}
+use Rattle.c_answer.proofs.Shown.{told}
 use Rattle.sloefertand.proofs.verdicts.sloefertand_deep_insert_verdict.Statement.{statement}
 use Rattle.sloefertand.proofs.verdicts.sloefertand_deep_insert_verdict.Tie as tie
 

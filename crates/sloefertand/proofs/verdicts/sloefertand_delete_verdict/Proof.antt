@@ -1,7 +1,7 @@
 -- The numbers of a verdict on a delete.
 use borrow.Author.Needs.{needs}
-use Rattle.numbers.specs.Numbers.{ofVerdict}
-use Rattle.answers.proofs.Shown.{told}
+use Rattle.c_numbers.specs.Numbers.{ofVerdict}
+use Rattle.c_answer.proofs.Shown.{told}
 use Rattle.sloefertand.proofs.verdicts.sloefertand_delete_verdict.Statement.{statement}
 use Rattle.sloefertand.proofs.verdicts.sloefertand_delete_verdict.Tie as tie
 

@@ -1,9 +1,0 @@
--- The branches of the code are those of the definition.
-use Rattle.deleting.proofs.Branches.{struck-removed, struck-selected, struck-below, struck-other}
-use Rattle.deleting.proofs.striking.struck.Statement.{statement}
-use Rattle.deleting.proofs.striking.struck.Tie as tie
-
-pub struck-spec : {M : Type 1} → statement M
-struck-spec =
-    tie.close
-    (tie.spec (λ c. search struck-removed) (λ c. search struck-selected) (λ c. search struck-below) (λ c. search struck-other))

@@ -1,0 +1,55 @@
+-- What a fine check of a read says, and that its answer and its row are those of the definition.
+use Prim.Native.Nat.{ℕ, _≤_}
+use mathlib.Core.Path.{_≡_, refl, sym, _∙_}
+use mathlib.Core.List.{List}
+use lib.ListN.{length}
+use Rattle.tables.specs.Limits.{stepLimit}
+use Rattle.tables.specs.Documents.{Doc}
+use Rattle.tables.specs.Checks.{_then_, documentCheck, patternCheck, outputCheck}
+use Rattle.tables.specs.declared.refusal.Refusal.{Refusal}
+use Rattle.tables.specs.declared.refusal.Checked.{Checked}
+use Rattle.tables.specs.declared.refusal.Checked.the-variants.{Fine, Refused}
+use Rattle.tables.proofs.Accepted.{then-first, then-second, output-room}
+use Rattle.tables.proofs.Soundness.{accepted-pattern, node-falls, document-nodes, used-facts}
+use Rattle.selection.specs.Operations.{readRow}
+use Rattle.doc_read.specs.States.{Readable}
+use Rattle.check_read.specs.Readable.{readCheck}
+use Rattle.doc_read.specs.Reading.{Read}
+
+module _ (p : List ℕ) (table : ℕ) (d : Doc) (bytes : ℕ) (e : readCheck p table d bytes ≡ Fine) where
+  pub fine-document : documentCheck d ≡ Fine
+  unfolding readCheck
+  fine-document =
+      then-first (documentCheck d) (patternCheck p stepLimit table then outputCheck (d .used) bytes) e
+
+  fine-rest : (patternCheck p stepLimit table then outputCheck (d .used) bytes) ≡ Fine
+  unfolding readCheck
+  fine-rest =
+      then-second (documentCheck d) (patternCheck p stepLimit table then outputCheck (d .used) bytes) e
+
+  pub fine-pattern : patternCheck p stepLimit table ≡ Fine
+  fine-pattern = then-first (patternCheck p stepLimit table) (outputCheck (d .used) bytes) fine-rest
+
+  pub fine-room : d .used ≤ bytes
+  fine-room = output-room (d .used) bytes (then-second (patternCheck p stepLimit table) (outputCheck (d .used) bytes) fine-rest)
+
+module _ (p : List ℕ) (table : ℕ) (d : Doc) (before : List ℕ) {got : Checked} (e : got ≡ readCheck p table d (length before)) where
+  -- a row that passed the checks can be read into
+  pub fine-readable : got ≡ Fine → Readable p (d .rows) (d .used) before
+  fine-readable told =
+      let fine : readCheck p table d (length before) ≡ Fine = sym e ∙ told in
+      record {
+        some = accepted-pattern p stepLimit table (fine-pattern p table d (length before) fine) .some;
+        ready =
+            record {
+              words = used-facts d (fine-document p table d (length before) fine) .2;
+              long = fine-room p table d (length before) fine;
+              parents = node-falls (d .rows) 5 (d .used) (document-nodes d (fine-document p table d (length before) fine));
+            };
+      }
+
+  pub read-fine : got ≡ Fine → {after : List ℕ} → after ≡ readRow p d before → Read p table d before after Fine
+  read-fine told q = record { answered = sym told ∙ e; row = q }
+
+  pub read-refused : {r : Refusal} → got ≡ Refused r → Read p table d before before (Refused r)
+  read-refused told = record { answered = sym told ∙ e; row = refl }

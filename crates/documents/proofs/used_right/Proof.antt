@@ -1,9 +1,0 @@
--- The branches of the code are those of the definition.
-use Rattle.documents.proofs.Branches.{used-none, used-over, used-long, used-fine}
-use Rattle.documents.proofs.used_right.Statement.{statement}
-use Rattle.documents.proofs.used_right.Tie as tie
-
-pub used-right-spec : {M : Type 1} → statement M
-used-right-spec =
-    tie.close
-    (tie.spec (λ c. search used-none) (λ c. search used-over) (λ c. search used-long) (λ c. search used-fine))

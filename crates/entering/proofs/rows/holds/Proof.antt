@@ -1,8 +1,0 @@
--- The byte is 1 where the state is in the row.
-use Rattle.entering.proofs.Climbing.{holds-is}
-use borrow.Author.Needs.{needs}
-use Rattle.entering.proofs.rows.holds.Statement.{statement}
-use Rattle.entering.proofs.rows.holds.Tie as tie
-
-pub holds-spec : {M : Type 1} → statement M
-holds-spec = tie.close (tie.spec (λ c. search needs) (λ c. search needs) (λ c. search needs) (λ c. search holds-is))

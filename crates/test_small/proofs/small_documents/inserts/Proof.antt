@@ -1,0 +1,25 @@
+-- The loop ends: what is left of its range falls.
+use Prim.Native.Nat.{_≤_, _-_}
+use borrow.Author.Needs.{needs}
+use Rattle.test_small.proofs.small_documents.inserts.Statement.{statement}
+use Rattle.test_small.proofs.small_documents.inserts.Tie as tie
+
+abbrev Inv-loop : tie.InvT-loop
+Inv-loop rows marks used d₀ k₀ d k = k ≤ 129
+
+abbrev μ-loop : tie.MeasureT-loop
+μ-loop rows marks used d₀ k₀ d k = 129 - k
+
+pub inserts-spec : {M : Type 1} → statement M
+inserts-spec =
+    tie.close
+    (tie.spec
+    Inv-loop
+    μ-loop
+    (λ c. search needs)
+    (λ c. search needs)
+    (λ c κs. search needs)
+    (λ c. search needs)
+    (λ c. search needs)
+    (λ c. search needs)
+    (λ c. search needs))

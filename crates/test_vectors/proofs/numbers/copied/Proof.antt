@@ -1,0 +1,27 @@
+-- The loop ends: what is left of its range falls.
+use Prim.Native.Nat.{_≤_, _-_}
+use mathlib.Core.Path.{_≡_}
+use lib.ListN.{length}
+use borrow.Author.Needs.{needs}
+use Rattle.test_vectors.proofs.numbers.copied.Statement.{statement}
+use Rattle.test_vectors.proofs.numbers.copied.Tie as tie
+
+abbrev Inv-loop : tie.InvT-loop
+Inv-loop t₀ n size k₀ i₀ t k i = (i ≤ size) × (length t ≡ length t₀)
+
+abbrev μ-loop : tie.MeasureT-loop
+μ-loop t₀ n size k₀ i₀ t k i = size - i
+
+pub copied-spec : {M : Type 1} → statement M
+copied-spec =
+    tie.close
+    (tie.spec
+    Inv-loop
+    μ-loop
+    (λ c. search needs)
+    (λ c κs. search needs)
+    (λ c. search needs)
+    (λ c. search needs)
+    (λ c. search needs)
+    (λ c. search needs)
+    (λ c. search needs))

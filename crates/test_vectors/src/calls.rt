@@ -1,0 +1,131 @@
+// The calls of a script, by name: each with the tables that it takes, its answer printed. A function here does nothing for other names.
+use crate::show::answer;
+use crate::show::front;
+use crate::show::text;
+use c_answer::answer::Answer;
+use check::same;
+use sloefertand::batches::sloefertand_plan;
+use sloefertand::batches::sloefertand_step;
+use sloefertand::checking::sloefertand_check_document;
+use sloefertand::checking::sloefertand_check_pattern;
+use sloefertand::checking::sloefertand_check_tree;
+use sloefertand::operations::sloefertand_delete;
+use sloefertand::operations::sloefertand_insert;
+use sloefertand::operations::sloefertand_plain_reading;
+use sloefertand::operations::sloefertand_read;
+use sloefertand::texts::sloefertand_print;
+use sloefertand::texts::sloefertand_read_line;
+use sloefertand::texts::sloefertand_write_line;
+use sloefertand::verdicts::sloefertand_deep_delete_verdict;
+use sloefertand::verdicts::sloefertand_deep_insert_verdict;
+use sloefertand::verdicts::sloefertand_delete_verdict;
+use sloefertand::verdicts::sloefertand_insert_verdict;
+
+// The checks of a pattern and of a tree, by a limit and a table, and of a document, by its used count.
+pub(crate) fn check(name: &[u8], r: &[u16], x: &[u16], t: &[u16], m: &[u8], u: usize, v: usize) {
+    if same(name, b"check pattern") {
+        answer(sloefertand_check_pattern(r, u, v), 0);
+        return;
+    }
+    if same(name, b"check tree") {
+        answer(sloefertand_check_tree(x, u, v), 0);
+        return;
+    }
+    if same(name, b"check document") {
+        answer(sloefertand_check_document(t, m, u), 0);
+    }
+}
+
+// Reading a document, and the plain reading of a tree.
+pub(crate) fn read(name: &[u8], r: &[u16], x: &[u16], t: &[u16], m: &[u8], u: usize, y: &mut [u8]) {
+    if same(name, b"read") {
+        answer(sloefertand_read(r, t, m, u, y), 0);
+        return;
+    }
+    if same(name, b"plain reading") {
+        answer(sloefertand_plain_reading(r, x, y), 0);
+    }
+}
+
+// Deleting; the used count stays.
+pub(crate) fn delete(name: &[u8], p: &[u16], t: &[u16], m: &mut [u8], u: usize) {
+    if same(name, b"delete") {
+        answer(sloefertand_delete(p, t, m, u), 1);
+    }
+}
+
+// The used count after an insert: a refused one leaves it.
+fn used(a: Answer, u: usize) -> usize {
+    if a.refusal == 0 {
+        return a.second;
+    }
+    u
+}
+
+// Inserting; the used count after it.
+pub(crate) fn insert(
+    name: &[u8],
+    p: &[u16],
+    x: &[u16],
+    t: &mut [u16],
+    m: &mut [u8],
+    u: usize,
+) -> usize {
+    if same(name, b"insert") {
+        let a = sloefertand_insert(p, x, t, m, u);
+        answer(a, 2);
+        return used(a, u);
+    }
+    u
+}
+
+// The verdicts.
+pub(crate) fn judge(name: &[u8], r: &[u16], p: &[u16], x: &[u16], t: &mut [u16]) {
+    if same(name, b"delete verdict") {
+        answer(sloefertand_delete_verdict(r, p, t), 1);
+        return;
+    }
+    if same(name, b"insert verdict") {
+        answer(sloefertand_insert_verdict(r, p, x, t), 1);
+        return;
+    }
+    if same(name, b"deep delete verdict") {
+        answer(sloefertand_deep_delete_verdict(r, p), 1);
+        return;
+    }
+    if same(name, b"deep insert verdict") {
+        answer(sloefertand_deep_insert_verdict(r, p, x), 1);
+    }
+}
+
+// The walker's step, and the plan.
+pub(crate) fn plan(name: &[u8], x: &[u16], t: &mut [u16], u: usize, v: usize) {
+    if same(name, b"step") {
+        answer(sloefertand_step(x, u, v), 4);
+        return;
+    }
+    if same(name, b"plan") {
+        answer(sloefertand_plan(x, t), 1);
+    }
+}
+
+// Lines there and back.
+pub(crate) fn spell(name: &[u8], x: &[u16], t: &mut [u16], m: &[u8], u: usize, y: &mut [u8]) {
+    if same(name, b"read line") {
+        answer(sloefertand_read_line(m, u, t), 1);
+        return;
+    }
+    if same(name, b"write line") {
+        answer(sloefertand_write_line(x, y), 1);
+    }
+}
+
+// The printed plan, and its bytes as they stand on lines of their own.
+pub(crate) fn print(name: &[u8], m: &[u8], y: &mut [u8]) {
+    if same(name, b"print") {
+        let a = sloefertand_print(m, y);
+        answer(a, 1);
+        text(b"\n");
+        text(front(y, a.first));
+    }
+}

@@ -1,0 +1,72 @@
+-- The plan printer: lines in, a line a frame out, or the first refusal.
+use Prim.Native.Nat.{ℕ, zero, suc, _+_, _-_, _≤_, _<_}
+use mathlib.Core.Path.{_≡_}
+use mathlib.Core.Bool.{cond}
+use mathlib.Core.List.{List, [], _∷_, _++_}
+use lib.Dec.{eqb, leb}
+use lib.ListN.{length, getD}
+use Rattle.tables.specs.Limits.{batchLimit}
+use Rattle.tables.specs.Checks.{_then_, test, refuse}
+use Rattle.tables.specs.declared.refusal.Refusal.{Refusal}
+use Rattle.tables.specs.declared.refusal.Checked.{Checked}
+use Rattle.tables.specs.declared.refusal.Checked.the-variants as checked
+use Rattle.conflict.specs.Conflict.{Update}
+use Rattle.order.specs.Frames.{Frame, At}
+use Rattle.batch_parts.specs.Parts.{part}
+use Rattle.batch_frame.specs.Frames.{kind, endOf, frameCheck}
+use Rattle.batch_check.specs.Batches.{batchOf}
+use Rattle.batch_plan.specs.Batch.{WordIs}
+use Rattle.text_digits.specs.Digits.{wordsOf}
+use Rattle.text_line_in.specs.Lines.{lineCheck}
+use Rattle.text_plan_lines.specs.Printing.{threeOf, planText, Answered}
+use Rattle.outcomes.specs.declared.texts.Printed.{Printed}
+
+-- the first line feed at or behind a place, of so many bytes; behind them where there is none
+unfoldable pub feedFrom : List ℕ → ℕ → ℕ → ℕ
+feedFrom s at zero = at
+feedFrom s at (suc left) = cond (eqb (getD s at 0) 10) at (feedFrom s (suc at) left)
+
+-- where the line ends that begins at a place: at the next line feed, or at the end of the input
+unfoldable pub lineEnd : List ℕ → ℕ → ℕ
+lineEnd s at = feedFrom s at (length s - at)
+
+-- that line
+abbrev pub lineAt : List ℕ → ℕ → List ℕ
+lineAt s at = part s at (lineEnd s at - at)
+
+-- line l behind n lines of words b: 13; 10, words first; as a frame; words left over 9
+unfoldable pub takeCheck : List ℕ → ℕ → List ℕ → Checked
+takeCheck l n b =
+    lineCheck l (n + 1)
+    then test (leb (length (b ++ wordsOf l)) batchLimit) (refuse 10 6 0)
+    then frameCheck (b ++ wordsOf l) n (length b)
+    then test (eqb (endOf (b ++ wordsOf l) (length b)) (length (b ++ wordsOf l))) (refuse 9 6 n)
+
+-- how the lines end: at the first refusal, with its line; or all are taken, with their words and the kinds of their frames
+pub data Outcome : Type 0 where
+  stopped : (line : ℕ) → Refusal → Outcome
+  taken : (words kinds : List ℕ) → Outcome
+
+-- the lines from a place on, behind n lines of words b, whose frames have these kinds
+pub data Lines (s : List ℕ) : ℕ → ℕ → List ℕ → List ℕ → Outcome → Type 0 where
+  none : {at n : ℕ} {b kinds : List ℕ} → length s ≤ at → Lines s at n b kinds (taken b kinds)
+  bad : {at n : ℕ} {b kinds : List ℕ} {r : Refusal} → at < length s → takeCheck (lineAt s at) n b ≡ checked.Refused r
+      → Lines s at n b kinds (stopped (n + 1) r)
+  good : {at n : ℕ} {b kinds : List ℕ} {o : Outcome} → at < length s → takeCheck (lineAt s at) n b ≡ checked.Fine
+      → Lines s (lineEnd s at + 1) (n + 1) (b ++ wordsOf (lineAt s at)) (kinds ++ (kind (b ++ wordsOf (lineAt s at)) (length b) ∷ [])) o
+      → Lines s at n b kinds o
+
+-- the plan of a batch: each frame's word
+pub record PlanIs (b plan : List ℕ) : Type 0 where
+  pub words : {k : ℕ} {f : Frame (List ℕ) Update} → At (batchOf b) k f → WordIs (batchOf b) k f (getD plan k 0)
+
+-- what is printed: at a refusal only FFFF, the line number and the refusal number; else the plan
+pub data Prints (s : List ℕ) : List ℕ → Type 0 where
+  refusal : {line : ℕ} {r : Refusal} → Lines s 0 0 [] [] (stopped line r) → Prints s (threeOf 65535 line (r .number))
+  plan : {b kinds plan : List ℕ} → Lines s 0 0 [] [] (taken b kinds) → PlanIs b plan → Prints s (planText kinds plan (length kinds))
+
+-- what printing promises
+pub record PrintedAs (s before after : List ℕ) (answer : Printed) : Type 0 where
+  pub text : List ℕ
+  pub prints : Prints s text
+  pub answered : Answered text before after answer

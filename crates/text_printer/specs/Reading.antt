@@ -1,0 +1,43 @@
+-- Inside: what the functions of the plan printer ask and promise.
+use Prim.Native.Nat.{ℕ, _+_, _/_, _≤_}
+use mathlib.Core.Path.{_≡_}
+use mathlib.Core.List.{List, [], _++_}
+use lib.ListN.{length, take}
+use Rattle.tables.specs.Limits.{batchLimit, digitLimit}
+use Rattle.tables.specs.declared.refusal.Checked.the-variants as checked
+use Rattle.text_digits.specs.Digits.{wordsOf}
+use Rattle.text_plan_lines.specs.Printing.{planText, Answered}
+use Rattle.outcomes.specs.declared.texts.Printed.{Printed}
+use Rattle.text_printer.specs.Printer.{takeCheck, stopped, taken, Lines, PlanIs}
+use Rattle.text_printer.specs.declared.Taken.{Taken}
+use Rattle.text_printer.specs.declared.Taken.the-variants as took
+use Rattle.text_printer.specs.declared.Ran.{Ran}
+use Rattle.text_printer.specs.declared.Ran.the-variants as ran
+
+-- a batch with room for one more line behind the words in use
+pub record Roomy (used : ℕ) (batch : List ℕ) : Type 0 where
+  pub within : used ≤ batchLimit
+  pub room : batchLimit + digitLimit / 4 ≤ length batch
+
+-- a line taken: its words behind those in use, or its refusal
+abbrev pub TakenAs : List ℕ → ℕ → ℕ → List ℕ → List ℕ → Taken → Type 0
+TakenAs l n used before after (took.Refused r) = takeCheck l n (take used before) ≡ checked.Refused r
+TakenAs l n used before after (took.Words w) =
+    (takeCheck l n (take used before) ≡ checked.Fine)
+    × (length after ≡ length before)
+    × (w ≡ used + length (wordsOf l))
+    × (take w after ≡ take used before ++ wordsOf l)
+
+-- all lines taken, with the frames and the words in use; or the first refusal
+abbrev pub RanAs : List ℕ → List ℕ → List ℕ → Ran → Type 0
+RanAs s batch kinds (ran.Stopped line why) = Lines s 0 0 [] [] (stopped line why)
+RanAs s batch kinds (ran.All frames words) =
+    Lines s 0 0 [] [] (taken (take words batch) (take frames kinds))
+    × (words ≤ length batch)
+    × (frames ≤ length kinds)
+
+-- the plan of a batch is printed
+pub record PlanPrinted (b kinds before after : List ℕ) (answer : Printed) : Type 0 where
+  pub plan : List ℕ
+  pub is : PlanIs b plan
+  pub answered : Answered (planText kinds plan (length kinds)) before after answer

@@ -1,0 +1,10 @@
+-- The branches of the code are those of the definition.
+use Rattle.verdict_meeting.proofs.Cells.{first-lands, first-fails}
+use borrow.Author.Needs.{needs}
+use Rattle.verdict_meeting.proofs.fill.first_landing.Statement.{statement}
+use Rattle.verdict_meeting.proofs.fill.first_landing.Tie as tie
+
+pub first-landing-spec : {M : Type 1} → statement M
+first-landing-spec =
+    tie.close
+    (tie.spec (λ c κs. search needs) (λ c κs. search needs) (λ c κs. search needs) (λ c. search first-lands) (λ c. search first-fails))

@@ -1,0 +1,96 @@
+// The shortest way on which a read and an update show a conflict, counted and written.
+use check_verdict::delete_check;
+use check_verdict::insert_check;
+use check_verdict::patterns_check;
+use tables::limits::STEP_LIMIT;
+use tables::refusal::Checked;
+use verdict_entering::entering_states;
+use verdict_meeting::meet;
+ghost use Prim.Native.Nat.{_<_};
+ghost use mathlib.Core.Path.{_≡_};
+ghost use mathlib.Core.Bool.{false};
+ghost use mathlib.Core.List.{[]};
+ghost use lib.ListN.{length};
+ghost use Rattle.tables.specs.Limits.{stepLimit};
+ghost use Rattle.tables.specs.Checks.{whereFine};
+ghost use Rattle.tables.specs.declared.refusal.Checked.the-variants.{Fine};
+ghost use Rattle.conflict.specs.Crossing.{deleteWay, insertWay};
+ghost use Rattle.check_verdict.specs.Order.{patternsCheck, deleteVerdictCheck, insertVerdictCheck};
+ghost use Rattle.verdict_ways.specs.Marked.{Only};
+ghost use Rattle.verdict_ways.specs.Ways.{touches, WayWritten};
+
+// A byte for every state, with a 1 at state i.
+fn only(i: usize) -> [u8; STEP_LIMIT]
+    requires { ⌜ i < stepLimit ⌝ }
+    ensures { λ s. ⌜ Only i s ⌝ }
+{
+    let mut states = [0; STEP_LIMIT];
+    states[i] = 1;
+    states
+}
+
+// The shortest way that an admitted read selects and an admitted delete hits.
+fn shortest_delete(r: &[u16], p: &[u16], out: &mut [u16]) -> usize
+    requires { ⌜ deleteVerdictCheck (now r) (now p) (length (now out)) ≡ Fine ⌝ }
+    ensures { λ n. ⌜ WayWritten (deleteWay (now (r .entry)) (now (p .entry))) (now (out .entry)) (now (out .exit)) n ⌝ }
+{
+    let i = r.len() / 2 - 1;
+    let j = p.len() / 2 - 1;
+    let states = only(i);
+    meet(r, false, p, true, &states, j, out)
+}
+
+// The shortest way that an admitted insert selects and from which the read enters the inserted tree.
+fn shortest_insert(r: &[u16], p: &[u16], x: &[u16], out: &mut [u16]) -> usize
+    requires { ⌜ insertVerdictCheck (now r) (now p) (now x) (length (now out)) ≡ Fine ⌝ }
+    ensures { λ n. ⌜ WayWritten (insertWay (now (r .entry)) (now (p .entry)) (now (x .entry))) (now (out .entry)) (now (out .exit)) n ⌝ }
+{
+    let j = p.len() / 2 - 1;
+    let states = entering_states(r, x);
+    meet(r, false, p, false, &states, j, out)
+}
+
+// Whether some way has an update point of p below a node that r selects; the way is counted, and written nowhere.
+fn touch_found(r: &[u16], p: &[u16]) -> bool
+    requires { ⌜ patternsCheck (now r) (now p) ≡ Fine ⌝ }
+    ensures { λ b. ⌜ b ≡ touches (now (r .entry)) (now (p .entry)) ⌝ }
+{
+    let n = p.len() / 2;
+    if n <= 1 {
+        return false;
+    }
+    let i = r.len() / 2 - 1;
+    let states = only(i);
+    let mut nowhere = [0; 1];
+    0 < meet(r, true, p, false, &states, n - 2, &mut nowhere)
+}
+
+// The shortest way that the read selects and the delete hits: how many labels it has, 0 for none, and its chain at the front of the output.
+pub fn delete_way(r: &[u16], p: &[u16], out: &mut [u16]) -> usize
+    ensures { λ n. ⌜ WayWritten (whereFine (deleteVerdictCheck (now (r .entry)) (now (p .entry)) (length (now (out .entry)))) (deleteWay (now (r .entry)) (now (p .entry))) []) (now (out .entry)) (now (out .exit)) n ⌝ }
+{
+    match delete_check(r, p, out.len()) {
+        Checked::Fine => shortest_delete(r, p, out),
+        Checked::Refused(_) => 0,
+    }
+}
+
+// The same of a read and an insert: the way to an update point from which the read enters the inserted tree.
+pub fn insert_way(r: &[u16], p: &[u16], x: &[u16], out: &mut [u16]) -> usize
+    ensures { λ n. ⌜ WayWritten (whereFine (insertVerdictCheck (now (r .entry)) (now (p .entry)) (now (x .entry)) (length (now (out .entry)))) (insertWay (now (r .entry)) (now (p .entry)) (now (x .entry))) []) (now (out .entry)) (now (out .exit)) n ⌝ }
+{
+    match insert_check(r, p, x, out.len()) {
+        Checked::Fine => shortest_insert(r, p, x, out),
+        Checked::Refused(_) => 0,
+    }
+}
+
+// Whether some way has an update point of the update below a node that the read selects.
+pub fn touching(r: &[u16], p: &[u16]) -> bool
+    ensures { λ b. ⌜ b ≡ whereFine (patternsCheck (now (r .entry)) (now (p .entry))) (touches (now (r .entry)) (now (p .entry))) false ⌝ }
+{
+    match patterns_check(r, p) {
+        Checked::Fine => touch_found(r, p),
+        Checked::Refused(_) => false,
+    }
+}
