@@ -14,8 +14,7 @@ use Rattle.tables.specs.declared.refusal.Checked.the-variants.{Fine, Refused}
 use Rattle.tables.proofs.Accepted.{never}
 use Rattle.c_answer.specs.declared.answer.Answer.{Answer}
 use Rattle.c_answer.specs.Answers.{refusing, Told}
-use Rattle.c_numbers.specs.Numbers.{ofChecked, ofDeleted, ofInserted, ofVerdict, ofDeeply}
-use Rattle.c_batch_numbers.specs.Numbers.{ofStepped, ofPlanned, ofParsed, ofSpelled, ofPrinted}
+use Rattle.c_numbers.specs.Numbers.{ofChecked, ofDeleted, ofInserted, ofVerdict, ofDeeply, ofStepped, ofPlanned, ofParsed, ofSpelled, ofPrinted}
 use Rattle.check_plain.specs.Bare.{plainCheck}
 use Rattle.doc_plain.specs.Plain.{PlainRead, RowAfter}
 use Rattle.check_read.specs.Readable.{readCheck}

@@ -26,8 +26,7 @@ use Rattle.text_line_out.proofs.Promise.{write-one}
 use Rattle.text_printer.specs.Printer.{PrintedAs}
 use Rattle.text_printer.proofs.Settled.{printed-one}
 use Rattle.c_answer.specs.Answers.{Told}
-use Rattle.c_numbers.specs.Numbers.{ofChecked, ofDeleted, ofInserted, ofVerdict, ofDeeply}
-use Rattle.c_batch_numbers.specs.Numbers.{ofPlanned, ofParsed, ofSpelled, ofPrinted}
+use Rattle.c_numbers.specs.Numbers.{ofChecked, ofDeleted, ofInserted, ofVerdict, ofDeeply, ofPlanned, ofParsed, ofSpelled, ofPrinted}
 use Rattle.c_answer.specs.declared.answer.Answer.{Answer}
 
 -- where the promises settle the answer and something more by its numbers, so do the numbers

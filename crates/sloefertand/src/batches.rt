@@ -2,13 +2,13 @@
 use batch_plan::plan::plan;
 use batch_walk::step;
 use c_answer::answer::Answer;
-use c_batch_numbers::planned;
-use c_batch_numbers::stepped;
+use c_numbers::planned;
+use c_numbers::stepped;
 ghost use mathlib.Core.Path.{_≡_};
 ghost use Rattle.batch_walk.specs.Walking.{stepAt};
 ghost use Rattle.batch_plan.specs.Batch.{Plan};
 ghost use Rattle.c_answer.specs.Answers.{Told};
-ghost use Rattle.c_batch_numbers.specs.Numbers.{ofStepped, ofPlanned};
+ghost use Rattle.c_numbers.specs.Numbers.{ofStepped, ofPlanned};
 
 // Frame n at a place of the batch. First: its kind, 0 where none is left; second: where it ends; third: its steps; fourth: its nodes.
 #[no_mangle]

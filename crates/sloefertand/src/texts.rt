@@ -1,8 +1,8 @@
 // Lines of hexadecimal digits, and the printed plan.
 use c_answer::answer::Answer;
-use c_batch_numbers::parsed;
-use c_batch_numbers::printed;
-use c_batch_numbers::spelled;
+use c_numbers::parsed;
+use c_numbers::printed;
+use c_numbers::spelled;
 use text_line_in::read_line;
 use text_line_out::write_line;
 use text_printer::print;
@@ -10,7 +10,7 @@ ghost use Rattle.text_line_in.specs.Lines.{ReadAs};
 ghost use Rattle.text_line_out.specs.Spelling.{WrittenAs};
 ghost use Rattle.text_printer.specs.Printer.{PrintedAs};
 ghost use Rattle.c_answer.specs.Answers.{Told};
-ghost use Rattle.c_batch_numbers.specs.Numbers.{ofParsed, ofSpelled, ofPrinted};
+ghost use Rattle.c_numbers.specs.Numbers.{ofParsed, ofSpelled, ofPrinted};
 
 // From a line's bytes to its words; the line's number is its place in a refusal. First: the words.
 #[no_mangle]

@@ -20,7 +20,7 @@ pub use Rattle.tables.specs.Checks.{_then_, outputCheck, patternCheck, treeChec
 pub use Rattle.c_answer.specs.declared.answer.Answer.{Answer}
 pub use Rattle.c_answer.specs.Answers.{refusing, Told}
 pub use Rattle.c_numbers.specs.Numbers.{ofChecked, ofDeleted, ofInserted, ofVerdict, ofDeeply}
-pub use Rattle.c_batch_numbers.specs.Numbers.{ofStepped, ofPlanned, ofParsed, ofSpelled, ofPrinted}
+pub use Rattle.c_numbers.specs.Numbers.{ofStepped, ofPlanned, ofParsed, ofSpelled, ofPrinted}
 -- selection: by embeddings, in rows, computed
 pub use Rattle.selection.specs.Lists.{count}
 pub use Rattle.selection.specs.Embeddings.{Selects}

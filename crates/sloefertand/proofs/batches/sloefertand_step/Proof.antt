@@ -1,6 +1,6 @@
 -- The numbers of the walker's step.
 use borrow.Author.Needs.{needs}
-use Rattle.c_batch_numbers.specs.Numbers.{ofStepped}
+use Rattle.c_numbers.specs.Numbers.{ofStepped}
 use Rattle.c_answer.proofs.Shown.{of-promise}
 use Rattle.sloefertand.proofs.batches.sloefertand_step.Statement.{statement}
 use Rattle.sloefertand.proofs.batches.sloefertand_step.Tie as tie

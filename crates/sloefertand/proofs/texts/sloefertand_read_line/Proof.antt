@@ -1,6 +1,6 @@
 -- The numbers of a line that is read.
 use borrow.Author.Needs.{needs}
-use Rattle.c_batch_numbers.specs.Numbers.{ofParsed}
+use Rattle.c_numbers.specs.Numbers.{ofParsed}
 use Rattle.c_answer.proofs.Shown.{told}
 use Rattle.sloefertand.proofs.texts.sloefertand_read_line.Statement.{statement}
 use Rattle.sloefertand.proofs.texts.sloefertand_read_line.Tie as tie

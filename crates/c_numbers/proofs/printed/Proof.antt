@@ -1,9 +1,9 @@
 -- The bytes, or the refusal.
 use borrow.Author.Needs.{needs}
-use Rattle.c_batch_numbers.specs.Numbers.{ofPrinted}
+use Rattle.c_numbers.specs.Numbers.{ofPrinted}
 use Rattle.c_answer.proofs.Shown.{of-case}
-use Rattle.c_batch_numbers.proofs.printed.Statement.{statement}
-use Rattle.c_batch_numbers.proofs.printed.Tie as tie
+use Rattle.c_numbers.proofs.printed.Statement.{statement}
+use Rattle.c_numbers.proofs.printed.Tie as tie
 
 pub printed-spec : {M : Type 1} → statement M
 printed-spec =

@@ -1,9 +1,9 @@
 -- The frames, or the refusal.
 use borrow.Author.Needs.{needs}
-use Rattle.c_batch_numbers.specs.Numbers.{ofPlanned}
+use Rattle.c_numbers.specs.Numbers.{ofPlanned}
 use Rattle.c_answer.proofs.Shown.{of-case}
-use Rattle.c_batch_numbers.proofs.planned.Statement.{statement}
-use Rattle.c_batch_numbers.proofs.planned.Tie as tie
+use Rattle.c_numbers.proofs.planned.Statement.{statement}
+use Rattle.c_numbers.proofs.planned.Tie as tie
 
 pub planned-spec : {M : Type 1} → statement M
 planned-spec =

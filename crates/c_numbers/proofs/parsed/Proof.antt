@@ -1,9 +1,9 @@
 -- The words, or the refusal.
 use borrow.Author.Needs.{needs}
-use Rattle.c_batch_numbers.specs.Numbers.{ofParsed}
+use Rattle.c_numbers.specs.Numbers.{ofParsed}
 use Rattle.c_answer.proofs.Shown.{of-case}
-use Rattle.c_batch_numbers.proofs.parsed.Statement.{statement}
-use Rattle.c_batch_numbers.proofs.parsed.Tie as tie
+use Rattle.c_numbers.proofs.parsed.Statement.{statement}
+use Rattle.c_numbers.proofs.parsed.Tie as tie
 
 pub parsed-spec : {M : Type 1} → statement M
 parsed-spec =

@@ -1,9 +1,9 @@
 -- None left, the frame, or the refusal.
 use borrow.Author.Needs.{needs}
-use Rattle.c_batch_numbers.specs.Numbers.{ofStepped}
+use Rattle.c_numbers.specs.Numbers.{ofStepped}
 use Rattle.c_answer.proofs.Shown.{of-case}
-use Rattle.c_batch_numbers.proofs.stepped.Statement.{statement}
-use Rattle.c_batch_numbers.proofs.stepped.Tie as tie
+use Rattle.c_numbers.proofs.stepped.Statement.{statement}
+use Rattle.c_numbers.proofs.stepped.Tie as tie
 
 pub stepped-spec : {M : Type 1} → statement M
 stepped-spec =

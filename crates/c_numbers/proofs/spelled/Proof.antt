@@ -1,9 +1,9 @@
 -- The digits, or the refusal.
 use borrow.Author.Needs.{needs}
-use Rattle.c_batch_numbers.specs.Numbers.{ofSpelled}
+use Rattle.c_numbers.specs.Numbers.{ofSpelled}
 use Rattle.c_answer.proofs.Shown.{of-case}
-use Rattle.c_batch_numbers.proofs.spelled.Statement.{statement}
-use Rattle.c_batch_numbers.proofs.spelled.Tie as tie
+use Rattle.c_numbers.proofs.spelled.Statement.{statement}
+use Rattle.c_numbers.proofs.spelled.Tie as tie
 
 pub spelled-spec : {M : Type 1} → statement M
 spelled-spec =
