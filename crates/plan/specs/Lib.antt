@@ -1,2 +1,2 @@
--- What the program's own functions promise each other.
+-- What the program's own functions promise each other: it need not be believed.
 pub mod Plan

@@ -1,4 +1,4 @@
--- What the program's own functions promise each other.
+-- Inside: what the program's own functions promise each other.
 use Prim.Native.Nat.{ℕ, _≤_}
 use mathlib.Core.List.{List}
 use lib.ListN.{length, take}
