@@ -1,7 +1,12 @@
 /*
  * Sloefertand for C and C++: reading and updating a tree held in tables, conflict verdicts, and the plan of a batch.
- * Link with libsloefertand.a. The library has no state and no heap, prints nothing and always returns: calls on several
- * threads are fine where no output is shared.
+ * Link with libsloefertand.a, which wants the C library's memset and, on x86-64, nothing else. The library has no state and no
+ * heap, prints nothing and always returns: calls on several threads are fine where no output is shared.
+ *
+ * STACK
+ * What a call keeps for itself is on the stack. On x86-64 print takes at most 62,000 bytes of it; plan 27,000; insert_verdict and
+ * deep_insert_verdict 26,000; delete_verdict and deep_delete_verdict 10,000; insert and delete 5,000; each other call 2,000. These
+ * are measured, by boundary/stack.c on the longest patterns, trees and batches, and not proved.
  *
  * BUFFERS
  * A buffer is a pointer and, behind it, its length in elements (uint16_t words or bytes, not sizeof). The caller answers for
@@ -31,7 +36,7 @@
  *    6  a delete of one step                                                        0
  *    7  an output that is too short                                                 0
  *    8  a frame whose kind is not 1, 2 or 3                                         frame
- *    9  a frame that ends early                                                     frame
+ *    9  a frame that ends early; in printed text, also words left over on a line    frame
  *   10  over 128 frames or 16,384 words                                             frame, 0 for words
  *   11  an insert without room                                                      0
  *   12  a wrong used count or mark                                                  0
@@ -58,7 +63,8 @@ extern "C" {
 #define SLOEFERTAND_PLAIN_NODES 16u
 #define SLOEFERTAND_FRAMES 128u         /* frames and words of a batch */
 #define SLOEFERTAND_BATCH_WORDS 16384u
-#define SLOEFERTAND_LINE_DIGITS 2572u   /* digits of a line */
+#define SLOEFERTAND_LINE_DIGITS 2572u   /* digits and words of a line: the longest is an insert of 64 steps and 256 nodes */
+#define SLOEFERTAND_LINE_WORDS 643u
 #define SLOEFERTAND_WITNESS_WORDS 254u  /* words with room for the witness of any verdict */
 #define SLOEFERTAND_PLAN_BYTES 1664u    /* bytes with room for any printed plan */
 
@@ -140,8 +146,9 @@ sloefertand_answer sloefertand_deep_insert_verdict(const uint16_t *read, size_t 
 /* BATCHES */
 
 /* The frame at word `at` of the batch, as frame `number`. Begin with 0 and 0; go on with number + 1 and at = second.
- * first: its kind, or 0 where the batch has ended. second: the word at which it ends. third: its steps, which begin at word
- * at + 2. fourth: its nodes, whose words are the last 2 * fourth before second.
+ * first: its kind. second: the word at which it ends. third: its steps, which begin at word at + 2. fourth: its nodes, whose
+ * words are the last 2 * fourth before second. Where the batch has ended all four are 0, second too: stop at kind 0, or the walk
+ * begins anew. A place past the end counts as the end. Any place may be asked; what stands there is then read as a frame.
  * Refusals, of table 6: 10 where the batch has too many words, at every call; for the frame 10, 8, 9, 1, 2, 9, 3, 6 and, for an
  * insert, 9, 1, 2, 9, 4, 5. */
 sloefertand_answer sloefertand_step(const uint16_t *batch, size_t batch_words, size_t number, size_t at);
@@ -155,7 +162,7 @@ sloefertand_answer sloefertand_plan(const uint16_t *batch, size_t batch_words, u
 
 /* Reads one line, without its line feed, into `words`. first: the words. `number` is the place of a refusal 13.
  * Refusals: 13 of table 6 where the line is empty, has over 2,572 digits, a number of digits that 4 does not divide, or another
- * character; then 7. */
+ * character; then 7. SLOEFERTAND_LINE_WORDS words are always enough. */
 sloefertand_answer sloefertand_read_line(const uint8_t *line, size_t line_bytes, size_t number, uint16_t *words,
                                          size_t words_words);
 
@@ -163,9 +170,10 @@ sloefertand_answer sloefertand_read_line(const uint8_t *line, size_t line_bytes,
 sloefertand_answer sloefertand_write_line(const uint16_t *words, size_t words_words, uint8_t *line, size_t line_bytes);
 
 /* From lines, one frame each, to the text that the plan printer prints: a line a frame with its kind, its number from 1 and its
- * plan word; or, at the first line that is refused, only FFFF, that line's number and the refusal's. So a bad line is no refusal
- * of this call. first: the bytes of the text. Refusal 7, of table 4, where `text` is too short for them.
- * SLOEFERTAND_PLAN_BYTES are always enough. */
+ * plan word; or, at the first line that is refused, only FFFF, that line's number and the refusal's. All three are hexadecimal, so
+ * refusal 10 is 000A and 13 is 000D. A line is refused by 13, then 10, then as a frame, then by 9 where words are left over behind
+ * its frame. So a bad line is no refusal of this call. first: the bytes of the text. Refusal 7, of table 4, where `text` is too
+ * short for them. SLOEFERTAND_PLAN_BYTES are always enough. */
 sloefertand_answer sloefertand_print(const uint8_t *lines, size_t lines_bytes, uint8_t *text, size_t text_bytes);
 
 #ifdef __cplusplus

@@ -1,7 +1,8 @@
-/* What a program in C does with the library: it plans a batch, asks for verdicts, reads a document and meets a refusal.
+/* What a program in C does with the library: it plans a batch, reads a line, asks for verdicts, reads a document and meets a refusal.
  * examples/run builds and runs it. Names a to e are the labels 1 to 5. */
 #include <stdint.h>
 #include <stdio.h>
+#include <string.h>
 
 #include "sloefertand.h"
 
@@ -37,6 +38,20 @@ static void show_plan(const uint16_t *batch, size_t words) {
         printf("%s of %zu steps and %zu nodes: %u\n", kinds[frame.first], frame.third, frame.fourth, (unsigned)plan[number]);
         at = frame.second;
     }
+}
+
+/* The words of a line of digits. */
+static void show_line(const char *line) {
+    uint16_t words[SLOEFERTAND_LINE_WORDS];
+    sloefertand_answer parsed = sloefertand_read_line((const uint8_t *)line, strlen(line), 1, words, COUNT(words));
+    if (refused(parsed)) {
+        return;
+    }
+    printf("%zu words:", parsed.first);
+    for (size_t i = 0; i < parsed.first; i++) {
+        printf(" %u", (unsigned)words[i]);
+    }
+    printf("\n");
 }
 
 /* Whether a read and a delete conflict, with the witness, a node a line. */
@@ -93,6 +108,9 @@ int main(void) {
     };
     printf("the plan of a batch\n");
     show_plan(batch, COUNT(batch));
+
+    printf("\nthe line of delete a/b\n");
+    show_line("000300020000000100010002");
 
     printf("\nread a//c, delete a/b\n");
     show_verdict(a_any_c, COUNT(a_any_c), a_b, COUNT(a_b));

@@ -1,11 +1,12 @@
-//! What a program in Rust does with the library: it plans a batch, asks for verdicts, reads a document and meets a refusal.
+//! What a program in Rust does with the library: it plans a batch, reads a line, asks for verdicts, reads a document and meets a refusal.
 //! `examples/run` builds and runs it. Names a to e are the labels 1 to 5.
 
 /// The library behind safe functions over slices: `include/sloefertand.h` says what each promises and refuses.
 mod sloefertand {
-    /// Words with room for the plan of any batch, and for the witness of any verdict.
+    /// Words with room for the plan of any batch, for the witness of any verdict, and for any line.
     pub const FRAMES: usize = 128;
     pub const WITNESS_WORDS: usize = 254;
+    pub const LINE_WORDS: usize = 643;
 
     /// What every exported function returns.
     #[repr(C)]
@@ -84,6 +85,13 @@ mod sloefertand {
                 plan: *mut u16,
                 plan_words: usize,
             ) -> Answer;
+            pub fn sloefertand_read_line(
+                line: *const u8,
+                line_bytes: usize,
+                number: usize,
+                words: *mut u16,
+                words_words: usize,
+            ) -> Answer;
         }
     }
 
@@ -158,6 +166,20 @@ mod sloefertand {
         };
         answer.values().map(|values| values.first)
     }
+
+    /// The number of words; they are written to `words`. `number` is the line's own, which a refusal 13 names.
+    pub fn read_line(line: &[u8], number: usize, words: &mut [u16]) -> Result<usize, Refusal> {
+        let answer = unsafe {
+            exported::sloefertand_read_line(
+                line.as_ptr(),
+                line.len(),
+                number,
+                words.as_mut_ptr(),
+                words.len(),
+            )
+        };
+        answer.values().map(|values| values.first)
+    }
 }
 
 use sloefertand::Refusal;
@@ -183,6 +205,18 @@ fn show_plan(batch: &[u16]) -> Result<(), Refusal> {
         );
         at = frame.second;
     }
+    Ok(())
+}
+
+/// The words of a line of digits.
+fn show_line(line: &[u8]) -> Result<(), Refusal> {
+    let mut words = [0; sloefertand::LINE_WORDS];
+    let count = sloefertand::read_line(line, 1, &mut words)?;
+    print!("{count} words:");
+    for word in &words[..count] {
+        print!(" {word}");
+    }
+    println!();
     Ok(())
 }
 
@@ -233,6 +267,9 @@ fn show_all() -> Result<(), Refusal> {
     ];
     println!("the plan of a batch");
     show_plan(&batch)?;
+
+    println!("\nthe line of delete a/b");
+    show_line(b"000300020000000100010002")?;
 
     println!("\nread a//c, delete a/b");
     show_verdict(&A_ANY_C, &A_B)?;

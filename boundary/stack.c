@@ -1,0 +1,159 @@
+/* Measures the stack that each call of the library takes. A call runs on a stack of its own, which is filled with one byte before;
+ * the deepest byte that changed says how far it went, less what a call of nothing takes. Patterns have 64 steps, inserted trees 256
+ * nodes, the batch fills its words, a plain reading has 8 steps on 16 nodes: the longest of each, so that every inside is reached.
+ *
+ * Prints a line a function: its bytes, and the most that the header says. Status 1 where one takes more than that; 2 where a call
+ * was refused, and so measured nothing. */
+#define _XOPEN_SOURCE 700
+#include <stdint.h>
+#include <stdio.h>
+#include <string.h>
+#include <ucontext.h>
+
+#include "sloefertand.h"
+
+#define COUNT(array) (sizeof(array) / sizeof((array)[0]))
+#define FILLING 0xA5
+#define USED 1000u
+
+static uint16_t steps[2 * SLOEFERTAND_STEPS], tree[2 * SLOEFERTAND_TREE_NODES], node[] = {0, 1};
+static uint16_t plain_steps[2 * SLOEFERTAND_PLAIN_STEPS], plain_tree[2 * SLOEFERTAND_PLAIN_NODES];
+static uint16_t rows[2 * SLOEFERTAND_USED_NODES], batch[SLOEFERTAND_BATCH_WORDS];
+static uint8_t marks[SLOEFERTAND_USED_NODES], row[SLOEFERTAND_USED_NODES];
+static uint16_t witness[SLOEFERTAND_WITNESS_WORDS], plan[SLOEFERTAND_FRAMES], words[SLOEFERTAND_LINE_WORDS];
+static uint8_t line[SLOEFERTAND_LINE_DIGITS], lines[4 * SLOEFERTAND_BATCH_WORDS + SLOEFERTAND_FRAMES], text[SLOEFERTAND_PLAN_BYTES];
+static size_t batch_words, line_bytes, lines_bytes;
+
+static sloefertand_answer answer;
+
+static void nothing(void) { answer.refusal = 0; }
+static void check_pattern(void) { answer = sloefertand_check_pattern(steps, COUNT(steps), SLOEFERTAND_STEPS, 1); }
+static void check_tree(void) { answer = sloefertand_check_tree(tree, COUNT(tree), SLOEFERTAND_TREE_NODES, 3); }
+static void check_document(void) { answer = sloefertand_check_document(rows, COUNT(rows), marks, COUNT(marks), USED); }
+static void reading(void) {
+    answer = sloefertand_read(steps, COUNT(steps), rows, COUNT(rows), marks, COUNT(marks), USED, row, COUNT(row));
+}
+static void plain_reading(void) {
+    answer = sloefertand_plain_reading(plain_steps, COUNT(plain_steps), plain_tree, COUNT(plain_tree), row, COUNT(row));
+}
+static void inserting(void) {
+    answer = sloefertand_insert(steps, COUNT(steps), node, COUNT(node), rows, COUNT(rows), marks, COUNT(marks), USED);
+}
+static void deleting(void) { answer = sloefertand_delete(steps, COUNT(steps), rows, COUNT(rows), marks, COUNT(marks), USED); }
+static void delete_verdict(void) {
+    answer = sloefertand_delete_verdict(steps, COUNT(steps), steps, COUNT(steps), witness, COUNT(witness));
+}
+static void insert_verdict(void) {
+    answer = sloefertand_insert_verdict(steps, COUNT(steps), steps, COUNT(steps), tree, COUNT(tree), witness, COUNT(witness));
+}
+static void deep_delete_verdict(void) { answer = sloefertand_deep_delete_verdict(steps, COUNT(steps), steps, COUNT(steps)); }
+static void deep_insert_verdict(void) {
+    answer = sloefertand_deep_insert_verdict(steps, COUNT(steps), steps, COUNT(steps), tree, COUNT(tree));
+}
+static void step(void) { answer = sloefertand_step(batch, batch_words, 0, 0); }
+static void planning(void) { answer = sloefertand_plan(batch, batch_words, plan, COUNT(plan)); }
+static void read_line(void) { answer = sloefertand_read_line(line, line_bytes, 1, words, COUNT(words)); }
+static void write_line(void) { answer = sloefertand_write_line(batch, COUNT(words), line, COUNT(line)); }
+static void printing(void) { answer = sloefertand_print(lines, lines_bytes, text, COUNT(text)); }
+
+/* Each function with the most bytes that the header says; deleting is last of those on the document, which it empties. */
+static const struct measured {
+    const char *name;
+    void (*call)(void);
+    size_t most;
+} calls[] = {
+    {"check_pattern", check_pattern, 2000},
+    {"check_tree", check_tree, 2000},
+    {"check_document", check_document, 2000},
+    {"read", reading, 2000},
+    {"plain_reading", plain_reading, 2000},
+    {"insert", inserting, 5000},
+    {"delete", deleting, 5000},
+    {"delete_verdict", delete_verdict, 10000},
+    {"insert_verdict", insert_verdict, 26000},
+    {"deep_delete_verdict", deep_delete_verdict, 10000},
+    {"deep_insert_verdict", deep_insert_verdict, 26000},
+    {"step", step, 2000},
+    {"plan", planning, 27000},
+    {"write_line", write_line, 2000},
+    {"read_line", read_line, 2000},
+    {"print", printing, 62000},
+};
+
+/* A pattern of wildcards, each below the one before it; and a chain of nodes with one label. */
+static void fill_pattern(uint16_t *pattern, size_t count) {
+    for (size_t i = 0; i < count; i++) {
+        pattern[2 * i] = i == 0 ? 0 : 2;
+        pattern[2 * i + 1] = 0;
+    }
+}
+static void fill_chain(uint16_t *nodes, size_t count) {
+    for (size_t i = 0; i < count; i++) {
+        nodes[2 * i] = (uint16_t)(i == 0 ? 0 : i - 1);
+        nodes[2 * i + 1] = 1;
+    }
+}
+
+/* Puts words behind the batch and, as one line, behind the lines. */
+static void add_frame(const uint16_t *frame, size_t count) {
+    memcpy(batch + batch_words, frame, count * sizeof *frame);
+    batch_words += count;
+    lines_bytes += sloefertand_write_line(frame, count, lines + lines_bytes, COUNT(lines) - lines_bytes).first;
+    lines[lines_bytes++] = '\n';
+}
+
+/* An insert with the longest pattern and tree, and behind it reads with that pattern, as many as a batch has words for. */
+static void fill_batch(void) {
+    uint16_t insert[SLOEFERTAND_LINE_WORDS] = {2, SLOEFERTAND_STEPS}, read[2 + COUNT(steps)] = {1, SLOEFERTAND_STEPS};
+    memcpy(insert + 2, steps, sizeof steps);
+    insert[2 + COUNT(steps)] = SLOEFERTAND_TREE_NODES;
+    memcpy(insert + 3 + COUNT(steps), tree, sizeof tree);
+    memcpy(read + 2, steps, sizeof steps);
+    for (add_frame(insert, COUNT(insert)); batch_words + COUNT(read) <= SLOEFERTAND_BATCH_WORDS;) {
+        add_frame(read, COUNT(read));
+    }
+    line_bytes = sloefertand_write_line(insert, COUNT(insert), line, COUNT(line)).first;
+}
+
+static unsigned char stack[1u << 20];
+static ucontext_t here, there;
+
+/* The bytes of stack that a call went down. */
+static size_t taken(void (*call)(void)) {
+    size_t low = 0;
+    memset(stack, FILLING, sizeof stack);
+    getcontext(&there);
+    there.uc_stack.ss_sp = stack;
+    there.uc_stack.ss_size = sizeof stack;
+    there.uc_link = &here;
+    makecontext(&there, call, 0);
+    swapcontext(&here, &there);
+    while (low < sizeof stack && stack[low] == FILLING) {
+        low++;
+    }
+    return sizeof stack - low;
+}
+
+int main(void) {
+    int status = 0;
+    size_t least;
+    fill_pattern(steps, SLOEFERTAND_STEPS);
+    fill_pattern(plain_steps, SLOEFERTAND_PLAIN_STEPS);
+    fill_chain(tree, SLOEFERTAND_TREE_NODES);
+    fill_chain(plain_tree, SLOEFERTAND_PLAIN_NODES);
+    fill_chain(rows, USED);
+    fill_batch();
+    least = taken(nothing);
+    for (size_t i = 0; i < COUNT(calls); i++) {
+        size_t bytes = taken(calls[i].call) - least;
+        if (answer.refusal != 0) {
+            fprintf(stderr, "stack: %s was refused by %zu\n", calls[i].name, answer.refusal);
+            return 2;
+        }
+        printf("%s %zu of %zu\n", calls[i].name, bytes, calls[i].most);
+        if (bytes > calls[i].most) {
+            status = 1;
+        }
+    }
+    return status;
+}
