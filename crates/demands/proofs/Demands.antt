@@ -1,24 +1,20 @@
 -- The three demands hold, and what stands besides.
-use Prim.Native.Nat.{ℕ, _*_, _<_, _≤_}
-use mathlib.Core.Path.{_≡_, refl, sym, _∙_, ap}
+use Prim.Native.Nat.{ℕ, _*_, _<_}
+use mathlib.Core.Path.{_≡_, refl, sym, _∙_}
 use mathlib.Core.List.{List, _++_}
 use mathlib.Core.Logic.{_↔_}
 use native.Mathlib.Omega.{arith}
 use lib.ListN.{length, take, drop}
 use lib.Seq.{drop-at}
-use Rattle.tables.specs.Limits.{stepLimit, treeLimit}
+use Rattle.tables.specs.Limits.{treeLimit}
 use Rattle.tables.specs.Words.{Bits16}
-use Rattle.tables.specs.Patterns.{Pattern}
-use Rattle.tables.specs.Documents.{Doc, doc}
+use Rattle.tables.specs.Documents.{Doc}
 use Rattle.tables.specs.declared.refusal.Checked.the-variants.{Fine}
-use Rattle.tables.proofs.Accepted.{never, then-first}
-use Rattle.tables.proofs.Soundness.{accepted-pattern, accepted-document, accepted-tree}
+use Rattle.tables.proofs.Accepted.{never}
+use Rattle.tables.proofs.Soundness.{accepted-document, accepted-tree}
 use Rattle.doc_read.proofs.Laws.{read-selects}
 use Rattle.selection.specs.Operations.{copies}
 use Rattle.selection.proofs.Selecting.{selecting}
-use Rattle.doc_updates.specs.Updating.{deleteCheck, insertCheck, Delete, Insert}
-use Rattle.outcomes.specs.declared.updates.Deleted.the-variants as deleted
-use Rattle.outcomes.specs.declared.updates.Inserted.the-variants as inserted
 use Rattle.doc_updates.proofs.Accepted.{delete-document, delete-pattern, insert-document, insert-pattern, insert-tree}
 use Rattle.doc_updates.proofs.Deletes.{delete-fine, delete-doc, delete-count, delete-behind, delete-length}
 use Rattle.doc_updates.proofs.Inserts.{insert-fine, insert-number, insert-doc, insert-words-behind, insert-marks-behind, insert-rows-length, insert-marks-length}
@@ -30,15 +26,11 @@ use Rattle.verdict.specs.Promise.{NodeVerdict, witnessNodes}
 use Rattle.outcomes.specs.declared.verdicts.Verdict.{Verdict}
 use Rattle.outcomes.specs.declared.verdicts.Verdict.the-variants as verdict
 use Rattle.marked.proofs.Marked.{marked}
-use Rattle.order.specs.Order.{own}
-use Rattle.order.specs.Model.{Order}
 use Rattle.order.proofs.Own.{own-order}
 use Rattle.order.proofs.Deciding.{conflicting, conflicting-decides}
-use Rattle.batch_check.specs.Batches.{batchOf, batchCheck, planCheck}
+use Rattle.batch_check.specs.Batches.{batchOf}
 use Rattle.batch_check.proofs.Frames.{accepted-fits}
-use Rattle.batch_plan.specs.Batch.{Plan}
-use Rattle.outcomes.specs.declared.plans.Planned.the-variants as planned
-use Rattle.batch_plan.proofs.Laws.{accepted-slot, same-slot}
+use Rattle.batch_plan.proofs.Laws.{same-slot}
 use Rattle.order_calls.proofs.Accepting.{Accepted}
 use Rattle.order_calls.proofs.Callable.{accepted-callable}
 use Rattle.order_calls.proofs.Running.{run-has, run-works, run-room, run-some}
@@ -50,7 +42,7 @@ use Rattle.text_digits.proofs.Returning.{length-wordsOf, length-lineOf}
 use Rattle.text_printer.proofs.Settled.{printed-one}
 use Rattle.text_printer.proofs.Enough.{room-enough}
 use Rattle.text_printer.proofs.Behind.{prints-first}
-use Rattle.demands.specs.Demands.{DemandOne, DemandTwo, Keeps, Start, DemandThree, Besides}
+use Rattle.demands.specs.Demands.{DemandOne, DemandTwo, Start, DemandThree, Besides}
 use Rattle.demands.proofs.Thirteen.{stops}
 use Rattle.demands.proofs.Orders as orders
 use Rattle.demands.proofs.Updates.{deleted-by, inserted-by}
@@ -130,6 +122,7 @@ demand-three =
       room = λ b d s o calls last run i k e answer at p x frame.
           run-room (accepted-fits b (s .words) (s .batch)) (accepted-callable b (s .batch)) (started s) run at frame;
       own-keeps = λ b before plan n words h. order-keeps b before plan n words h (own-order conflicting (batchOf b));
+      starts = λ b d words batch rows document. record { words = words; batch = batch; rows = rows; document = document };
       start = start;
       moved = (moved-plan, moved-keeps);
       runs = run-some;

@@ -1,10 +1,10 @@
 -- An order in which a read has moved: the example's read goes before its delete, with which it does not conflict.
-use Prim.Native.Nat.{ℕ, zero, suc, _<_, _≤_}
-use mathlib.Core.Path.{_≡_, refl, sym}
+use Prim.Native.Nat.{ℕ, zero, suc, _≤_}
+use mathlib.Core.Path.{_≡_, refl}
 use mathlib.Core.Bool.{false}
 use mathlib.Core.List.{List, [], _∷_}
 use native.Mathlib.Omega.{arith}
-use lib.ListN.{length, getD}
+use lib.ListN.{getD}
 use Rattle.tables.specs.Documents.{doc}
 use Rattle.tables.specs.Checks.{patternCheck, sizeCheck, each, axisCheck, axisRight, nodeCheck, parentRight, usedRight, usedCheck, markRight, markCheck, documentCheck, outputCheck}
 use Rattle.tables.specs.Words.{Bits16}
@@ -14,7 +14,7 @@ use Rattle.marked.proofs.Marked.{small, words-of}
 use Rattle.conflict.specs.Conflict.{Update, delete}
 use Rattle.conflict.specs.Meeting.{agree, landing, shared, sooner, shorter, longer, meeting, meetingOf}
 use Rattle.conflict.specs.Crossing.{deleteWay}
-use Rattle.order.specs.Model.{nearest, slot, Order}
+use Rattle.order.specs.Model.{nearest, slot}
 use Rattle.order.specs.Frames.{Frame, read, update, At, here, there, updatesAt, earlier, number}
 use Rattle.order.proofs.Own.{read-first}
 use Rattle.order.proofs.Places.{at-below}

@@ -1,6 +1,6 @@
 -- Each call is refused exactly where its order of checks gives a refusal, by that one, and a refused call changes nothing.
 use Prim.Native.Nat.{ℕ, _*_, _/_}
-use mathlib.Core.Path.{_≡_, refl, sym, _∙_}
+use mathlib.Core.Path.{_≡_, refl, sym}
 use mathlib.Core.Bool.{Bool, true, false, cond}
 use mathlib.Core.List.{List}
 use lib.Dec.{ltb, leb}
@@ -16,7 +16,7 @@ use Rattle.c_answer.specs.declared.answer.Answer.{Answer}
 use Rattle.c_answer.specs.Answers.{refusing, Told}
 use Rattle.c_numbers.specs.Numbers.{ofChecked, ofDeleted, ofInserted, ofVerdict, ofDeeply, ofStepped, ofPlanned, ofParsed, ofSpelled, ofPrinted}
 use Rattle.check_plain.specs.Bare.{plainCheck}
-use Rattle.doc_plain.specs.Plain.{PlainRead, RowAfter}
+use Rattle.doc_plain.specs.Plain.{PlainRead}
 use Rattle.check_read.specs.Readable.{readCheck}
 use Rattle.doc_read.specs.Reading.{Read}
 use Rattle.doc_updates.specs.Updating.{deleteCheck, insertCheck, Delete, Insert}
@@ -51,7 +51,7 @@ use Rattle.outcomes.specs.declared.texts.Spelled.the-variants as spelled
 use Rattle.text_printer.specs.Printer.{PrintedAs}
 use Rattle.outcomes.specs.declared.texts.Printed.{Printed}
 use Rattle.outcomes.specs.declared.texts.Printed.the-variants as printed
-use Rattle.demands.specs.Demands.{Numbered, ByOrder, Nothing}
+use Rattle.demands.specs.Demands.{ByOrder, Nothing}
 use Rattle.demands.proofs.Thirteen as thirteen
 use Rattle.demands.proofs.Thirteen.{Thirteen}
 

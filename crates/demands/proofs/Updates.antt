@@ -1,13 +1,13 @@
 -- A delete removes exactly what its pattern covers by embeddings; an insert puts a copy under exactly the nodes that its pattern selects by embeddings.
-use Prim.Native.Nat.{ℕ, _+_, _*_, _<_, _≤_}
-use mathlib.Core.Path.{_≡_, refl, sym, _∙_}
+use Prim.Native.Nat.{ℕ, _+_, _*_, _<_}
+use mathlib.Core.Path.{_≡_, refl, _∙_}
 use mathlib.Core.Bool.{Bool, true, false, cond}
 use mathlib.Core.List.{List}
 use native.Mathlib.Decide.{decLt}
 use native.Mathlib.Nat.{add-zero}
 use native.Mathlib.Omega.{arith}
-use lib.ListN.{length, getD}
-use Rattle.tables.specs.Words.{nodes, parent}
+use lib.ListN.{getD}
+use Rattle.tables.specs.Words.{nodes}
 use Rattle.tables.specs.Patterns.{Pattern}
 use Rattle.tables.specs.Documents.{Doc, bare, mark, present, Sound}
 use Rattle.selection.specs.Lists.{count}

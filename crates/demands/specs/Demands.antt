@@ -90,7 +90,7 @@ pub record Keeps (plan : List ℕ) (b : List (Frame (List ℕ) Update)) (o : Lis
   pub after-slot : {i j : ℕ} {r : List ℕ} {u : Update} → At b i (read r) → At b j (update u) → number b j ≡ getD plan i 0 → Before o j i
   pub before-later : {i j : ℕ} {r : List ℕ} {u : Update} → At b i (read r) → At b j (update u) → i < j → Before o i j
 
--- a batch and a document that meet no refusal
+-- a batch and a document that meet no refusal; their words have 16 bits
 pub record Start (b : List ℕ) (d : Doc) : Type 0 where
   pub words : Bits16 b
   pub batch : batchCheck b ≡ Fine
@@ -114,6 +114,7 @@ pub record DemandThree : Type 0 where
       (i k : ℕ) (e : Doc) (answer : Reply) → At calls i (called k e answer) → (p x : List ℕ) → At (batchOf b) k (update (insert p x)) → NoRoom answer ↔ (fits p x e ≡ false)
   -- there are such orders and runs: the batch's own order keeps its plan, and so does one in which the example's read has moved; in every order of its frames there is a run, with a call for each
   pub own-keeps : (b before plan : List ℕ) (n : ℕ) → Bits16 b → Plan b before plan (planned.Frames n) → Keeps plan (batchOf b) (own (batchOf b))
+  pub starts : (b : List ℕ) (d : Doc) → Bits16 b → batchCheck b ≡ Fine → Bits16 (d .rows) → documentCheck d ≡ Fine → Start b d
   pub start : Start example (doc (0 ∷ 1 ∷ 0 ∷ 2 ∷ []) (0 ∷ 0 ∷ []) 2)
   pub moved : Plan example (0 ∷ 0 ∷ []) (1 ∷ 0 ∷ []) (planned.Frames 2) × Keeps (1 ∷ 0 ∷ []) (batchOf example) (1 ∷ 0 ∷ [])
   pub runs : (b : List (Frame (List ℕ) Update)) (o : List ℕ) (d : Doc) → ((p k : ℕ) → At o p k → k < length b) → Runs b o d

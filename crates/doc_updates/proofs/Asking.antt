@@ -36,7 +36,7 @@ then-assoc Fine b c = refl
 then-assoc (Refused r) b c = refl
 
 -- with a byte for 4,096 nodes the checks of a read are the document's and the pattern's
-never-short : (p : List ℕ) (table : ℕ) (d : Doc) (bytes : ℕ) → usedLimit ≤ bytes → readCheck p table d bytes ≡ (documentCheck d then patternCheck p stepLimit table)
+pub never-short : (p : List ℕ) (table : ℕ) (d : Doc) (bytes : ℕ) → usedLimit ≤ bytes → readCheck p table d bytes ≡ (documentCheck d then patternCheck p stepLimit table)
 unfolding readCheck outputCheck
 never-short p table d bytes long = go (documentCheck d) (λ e. rw (le-leb (d .used) bytes (le-trans (used-facts d e .1) long)) (then-fine (patternCheck p stepLimit table)))
   where

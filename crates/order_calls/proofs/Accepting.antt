@@ -4,13 +4,11 @@ use mathlib.Core.Path.{_≡_}
 use mathlib.Core.Bool.{Bool, true, false, cond}
 use mathlib.Core.List.{List}
 use native.Mathlib.Omega.{arith}
-use lib.ListN.{length}
-use Rattle.tables.specs.Limits.{usedLimit}
 use Rattle.tables.specs.Documents.{Doc, bare, mark, Sound}
 use Rattle.tables.specs.Checks.{documentCheck}
 use Rattle.tables.specs.declared.refusal.Checked.the-variants.{Fine}
 use Rattle.tables.proofs.Soundness.{used-facts, mark-bit, sound-accepted}
-use Rattle.selection.specs.Operations.{struck, deleted, inserted, stored, copies}
+use Rattle.selection.specs.Operations.{struck, deleted, inserted, copies}
 use Rattle.selection.proofs.Deleting.{deleted-used, deleted-mark, deleted-length, deleted-sound}
 use Rattle.selection.proofs.Inserting.{Placed, old, copied, Room, inserted-placed, inserted-used, inserted-marks-length, inserted-sound, inserted-kept, inserted-copy, stored-cases}
 use Rattle.conflict.specs.Conflict.{Update, delete, insert}

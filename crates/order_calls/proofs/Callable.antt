@@ -1,5 +1,5 @@
 -- Each frame of an accepted batch is accepted by its call too: only the document can be refused then, or an insert for room.
-use Prim.Native.Nat.{ℕ, _+_, _*_, _<_}
+use Prim.Native.Nat.{ℕ, _<_}
 use mathlib.Core.Path.{_≡_}
 use mathlib.Core.List.{List}
 use mathlib.Core.Logic.{_⊎_, inl, inr}

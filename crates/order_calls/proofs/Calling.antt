@@ -1,6 +1,6 @@
 -- The call of an accepted frame on an accepted document does what the model says, and is refused for room or not at all.
 use Prim.Native.Nat.{ℕ, _+_, _*_, _<_, _≤_}
-use mathlib.Core.Path.{_≡_, refl, sym, _∙_}
+use mathlib.Core.Path.{_≡_, refl, sym, _∙_, subst}
 use mathlib.Core.Bool.{Bool, true, false, cond, false≢true}
 use mathlib.Core.List.{List}
 use mathlib.Core.Logic.{_⊎_, inl, inr, _↔_}
@@ -18,14 +18,15 @@ use Rattle.tables.specs.declared.refusal.Checked.the-variants.{Fine, Refused}
 use Rattle.tables.proofs.Accepted.{never}
 use Rattle.tables.proofs.Soundness.{used-facts}
 use Rattle.selection.specs.Embeddings.{Selects}
-use Rattle.selection.specs.Ways.{selected}
 use Rattle.selection.specs.Operations.{readRow, deleted, removed, inserted, copies, fits, stored}
 use Rattle.selection.proofs.Rows.{read-row}
 use Rattle.selection.proofs.Selecting.{selecting}
 use Rattle.selection.proofs.Inserting.{inserted-used, selected-used}
 use Rattle.check_read.specs.Readable.{readCheck}
-use Rattle.doc_read.specs.Reading.{Read}
 use Rattle.doc_updates.specs.Updating.{deleteCheck, insertCheck, deleteAnswer, insertAnswer, Delete, Insert}
+use Rattle.doc_updates.proofs.Asking.{never-short}
+use Rattle.doc_updates.proofs.Deletes.{delete-doc}
+use Rattle.doc_updates.proofs.Inserts.{insert-doc}
 use Rattle.outcomes.specs.declared.updates.Deleted.{Deleted}
 use Rattle.outcomes.specs.declared.updates.Inserted.{Inserted}
 use Rattle.conflict.specs.Conflict.{Update, delete, insert}
@@ -39,8 +40,7 @@ use Rattle.order_calls.proofs.Callable.{Callable}
 -- the checks of a call
 module _ (p : List ℕ) (d : Doc) (accepted : Accepted d) where
   read-fine : (bytes : ℕ) → Callable (read p) → usedLimit ≤ bytes → readCheck p 1 d bytes ≡ Fine
-  unfolding readCheck outputCheck
-  read-fine bytes pattern long = rw (accepted .fine, pattern, le-leb (d .used) bytes (le-trans (used-facts d (accepted .fine) .1) long))
+  read-fine bytes pattern long = never-short p 1 d bytes long ∙ rw (accepted .fine, pattern)
 
   delete-fine : Callable (update (delete p)) → deleteCheck p d ≡ Fine
   unfolding deleteCheck
@@ -50,29 +50,27 @@ module _ (p : List ℕ) (d : Doc) (accepted : Accepted d) where
   unfolding insertCheck
   insert-check x c = rw (accepted .fine, c .0, c .1)
 
--- a delete that is fine leaves the deleted document
-delete-leaves : (p : List ℕ) (d : Doc) {marks : List ℕ} → marks ≡ deleted p d .marks → doc (d .rows) marks (d .used) ≡ deleted p d
-unfolding deleted
-delete-leaves p d m = rw m
-
 delete-tells : (c : Checked) (n : ℕ) {answer : Deleted} → answer ≡ deleteAnswer c n → refusalOf (deleting answer) ≡ c
 delete-tells Fine n e = rw e
 delete-tells (Refused why) n e = rw e
 
+-- a delete leaves the deleted document
+delete-leaves : {p marks : List ℕ} {d : Doc} {answer : Deleted} → Delete p d (d .marks) marks answer → deleteCheck p d ≡ Fine → doc (d .rows) marks (d .used) ≡ deleted p d
+delete-leaves {p} {marks} {d} {answer} h e =
+    let a : answer ≡ deleteAnswer Fine (removed p d) = rw e at (h .answered) in
+    delete-doc p d (subst (Delete p d (d .marks) marks) a h)
+
 -- an insert leaves the document with the copies in it, or, where there is no room, as it was
 module _ {p x rows marks : List ℕ} {d : Doc} {answer : Inserted} (h : Insert p x d (d .rows) (d .marks) rows marks answer) where
+  told : (c : Checked) → insertCheck p x d ≡ c → answer ≡ insertAnswer c (copies p d) (d .used + copies p d * nodes x)
+  told c e = rw e at (h .answered)
+
   insert-leaves : (t : Bool) → insertCheck p x d ≡ test t (refuse 11 4 0) → doc rows marks (usedAfter answer (d .used)) ≡ cond t (inserted p x d) d
-  insert-leaves true e =
-      let r : rows ≡ inserted p x d .rows = rw e at (h .rows) in
-      let m : marks ≡ inserted p x d .marks = rw e at (h .marks) in
-      let a : answer ≡ insertAnswer Fine (copies p d) (d .used + copies p d * nodes x) = rw e at (h .answered) in
-      let u : usedAfter answer (d .used) ≡ inserted p x d .used = rw a (sym (inserted-used p x d)) in
-      rw (r, m, u)
+  insert-leaves true e = rw (told Fine e) (insert-doc p x d (subst (Insert p x d (d .rows) (d .marks) rows marks) (told Fine e) h))
   insert-leaves false e =
       let r : rows ≡ d .rows = rw e at (h .rows) in
       let m : marks ≡ d .marks = rw e at (h .marks) in
-      let a : answer ≡ insertAnswer (refuse 11 4 0) (copies p d) (d .used + copies p d * nodes x) = rw e at (h .answered) in
-      rw (r, m, a)
+      rw (r, m, told (refuse 11 4 0) e)
 
 insert-tells : (c : Checked) (n used : ℕ) {answer : Inserted} → answer ≡ insertAnswer c n used → refusalOf (inserting answer) ≡ c
 insert-tells Fine n used e = rw e
@@ -82,7 +80,7 @@ insert-tells (Refused why) n used e = rw e
 pub call-leaves : {f : Frame (List ℕ) Update} {d e : Doc} {answer : Reply} → Accepted d → Callable f → Call f d answer e → e ≡ act running f d
 unfolding stored
 call-leaves accepted c (reads long h) = refl
-call-leaves accepted c (deletes {p = p} {d = d} h) = delete-leaves p d (rw (delete-fine p d accepted c) at (h .marks))
+call-leaves accepted c (deletes {p = p} {d = d} h) = delete-leaves h (delete-fine p d accepted c)
 call-leaves accepted c (inserts {p = p} {x = x} {d = d} h) = insert-leaves h (fits p x d) (insert-check p d accepted x c)
 
 -- an insert is refused for room exactly where it does not fit, and else by nothing

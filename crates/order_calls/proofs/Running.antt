@@ -11,15 +11,14 @@ use Rattle.selection.specs.Operations.{fits}
 use Rattle.conflict.specs.Conflict.{Update, insert}
 use Rattle.order.specs.Model.{Fits, act, ran, lastDoc, met}
 use Rattle.order.specs.Frames.{Frame, read, update, At, here, there}
-use Rattle.order.specs.Order.{Stands}
 use Rattle.order.specs.Fitting.{FitFrame}
-use Rattle.order.proofs.Places.{at-one, at-below, by-kind}
+use Rattle.order.proofs.Places.{at-one, by-kind}
 use Rattle.order.proofs.Stages.{ran-at, met-cases}
 use Rattle.order_calls.specs.Calls.{Reply, Call, Called, called, Run, over, next, Has, Runs, NoRoom, Works}
 use Rattle.order_calls.specs.Running.{running}
 use Rattle.order_calls.proofs.Accepting.{Accepted, updated-accepted}
 use Rattle.order_calls.proofs.Callable.{Callable}
-use Rattle.order_calls.proofs.Calling.{call-leaves, call-works, no-room-exactly, Answers, answers}
+use Rattle.order_calls.proofs.Calling.{call-leaves, call-works, no-room-exactly, answers}
 
 -- in an order each frame stands once
 pub record Once (o : List ℕ) : Type 0 where

@@ -1,12 +1,7 @@
 -- Inside: what the calls of a batch do to a document, as a model of reads and updates. The laws tie it to the calls themselves.
 use Prim.Native.Nat.{ℕ}
-use mathlib.Core.Path.{_≡_}
 use mathlib.Core.List.{List}
-use Rattle.tables.specs.Limits.{stepLimit, treeLimit}
-use Rattle.tables.specs.Words.{steps}
-use Rattle.tables.specs.Documents.{Doc, Sound}
-use Rattle.tables.specs.Checks.{documentCheck, patternCheck, treeCheck}
-use Rattle.tables.specs.declared.refusal.Checked.the-variants.{Fine}
+use Rattle.tables.specs.Documents.{Doc}
 use Rattle.selection.specs.Ways.{selected}
 use Rattle.selection.specs.Operations.{deleted, stored}
 use Rattle.conflict.specs.Conflict.{Update, delete, insert}

@@ -11,40 +11,40 @@ use Rattle.tables.specs.Words.{steps, nodes, tag}
 use Rattle.tables.specs.Checks.{refuse, _then_, test, each, sizeCheck, axisRight, axisCheck, patternCheck, parentRight, nodeCheck, treeCheck}
 use Rattle.tables.proofs.Accepted.{held, then-first, then-second, then-both, each-fine, each-all}
 
-elsewhere : (b : Bool) (n table other place : ℕ) → test b (refuse n table place) ≡ Fine → test b (refuse n other place) ≡ Fine
-elsewhere b n table other place e = rw (held b _ e)
+test-elsewhere : (b : Bool) (n table other place : ℕ) → test b (refuse n table place) ≡ Fine → test b (refuse n other place) ≡ Fine
+test-elsewhere b n table other place e = rw (held b _ e)
 
-two : (a b c d : Checked) → (a ≡ Fine → c ≡ Fine) → (b ≡ Fine → d ≡ Fine) → (a then b) ≡ Fine → (c then d) ≡ Fine
-two a b c d f g e = then-both c d (f (then-first a b e)) (g (then-second a b e))
+then-elsewhere : (a b c d : Checked) → (a ≡ Fine → c ≡ Fine) → (b ≡ Fine → d ≡ Fine) → (a then b) ≡ Fine → (c then d) ≡ Fine
+then-elsewhere a b c d f g e = then-both c d (f (then-first a b e)) (g (then-second a b e))
 
-all : (f g : ℕ → Checked) (n : ℕ) → ((i : ℕ) → f i ≡ Fine → g i ≡ Fine) → each f 0 n ≡ Fine → each g 0 n ≡ Fine
-all f g n h e = each-all g 0 n (λ i l. h _ (each-fine f 0 n e i l))
+each-elsewhere : (f g : ℕ → Checked) (n : ℕ) → ((i : ℕ) → f i ≡ Fine → g i ≡ Fine) → each f 0 n ≡ Fine → each g 0 n ≡ Fine
+each-elsewhere f g n h e = each-all g 0 n (λ i l. h _ (each-fine f 0 n e i l))
 
 module _ (limit table other : ℕ) where
-  size : (n : ℕ) → sizeCheck n limit table ≡ Fine → sizeCheck n limit other ≡ Fine
+  size-elsewhere : (n : ℕ) → sizeCheck n limit table ≡ Fine → sizeCheck n limit other ≡ Fine
   unfolding sizeCheck
-  size n =
-      two (test (ltb 0 n && eqb (n % 2) 0) (refuse 1 table 0)) (test (leb (n / 2) limit) (refuse 2 table 0)) _ _
-      (elsewhere (ltb 0 n && eqb (n % 2) 0) 1 table other 0) (elsewhere (leb (n / 2) limit) 2 table other 0)
+  size-elsewhere n =
+      then-elsewhere (test (ltb 0 n && eqb (n % 2) 0) (refuse 1 table 0)) (test (leb (n / 2) limit) (refuse 2 table 0)) _ _
+      (test-elsewhere (ltb 0 n && eqb (n % 2) 0) 1 table other 0) (test-elsewhere (leb (n / 2) limit) 2 table other 0)
 
-  axis : (p : List ℕ) (i : ℕ) → axisCheck p table i ≡ Fine → axisCheck p other i ≡ Fine
+  axis-elsewhere : (p : List ℕ) (i : ℕ) → axisCheck p table i ≡ Fine → axisCheck p other i ≡ Fine
   unfolding axisCheck
-  axis p i = elsewhere (axisRight p i) 3 table other i
+  axis-elsewhere p i = test-elsewhere (axisRight p i) 3 table other i
 
-  node : (t : List ℕ) (v : ℕ) → nodeCheck t table v ≡ Fine → nodeCheck t other v ≡ Fine
+  node-elsewhere : (t : List ℕ) (v : ℕ) → nodeCheck t table v ≡ Fine → nodeCheck t other v ≡ Fine
   unfolding nodeCheck
-  node t v =
-      two (test (parentRight t v) (refuse 4 table v)) (test (ltb 0 (tag t v)) (refuse 5 table v)) _ _
-      (elsewhere (parentRight t v) 4 table other v) (elsewhere (ltb 0 (tag t v)) 5 table other v)
+  node-elsewhere t v =
+      then-elsewhere (test (parentRight t v) (refuse 4 table v)) (test (ltb 0 (tag t v)) (refuse 5 table v)) _ _
+      (test-elsewhere (parentRight t v) 4 table other v) (test-elsewhere (ltb 0 (tag t v)) 5 table other v)
 
   pub pattern-elsewhere : (p : List ℕ) → patternCheck p limit table ≡ Fine → patternCheck p limit other ≡ Fine
   unfolding patternCheck
   pattern-elsewhere p =
-      two (sizeCheck (length p) limit table) (each (axisCheck p table) 0 (steps p)) _ _
-      (size (length p)) (all (axisCheck p table) (axisCheck p other) (steps p) (axis p))
+      then-elsewhere (sizeCheck (length p) limit table) (each (axisCheck p table) 0 (steps p)) _ _
+      (size-elsewhere (length p)) (each-elsewhere (axisCheck p table) (axisCheck p other) (steps p) (axis-elsewhere p))
 
   pub tree-elsewhere : (t : List ℕ) → treeCheck t limit table ≡ Fine → treeCheck t limit other ≡ Fine
   unfolding treeCheck
   tree-elsewhere t =
-      two (sizeCheck (length t) limit table) (each (nodeCheck t table) 0 (nodes t)) _ _
-      (size (length t)) (all (nodeCheck t table) (nodeCheck t other) (nodes t) (node t))
+      then-elsewhere (sizeCheck (length t) limit table) (each (nodeCheck t table) 0 (nodes t)) _ _
+      (size-elsewhere (length t)) (each-elsewhere (nodeCheck t table) (nodeCheck t other) (nodes t) (node-elsewhere t))

@@ -8,11 +8,11 @@ use native.Mathlib.Decide.{ℕ-discrete}
 use native.Mathlib.Nat.{zero-add}
 use native.Mathlib.Omega.{arith}
 use lib.Dec.{eqb, ltb, leb}
-use lib.ListN.{length, getD}
+use lib.ListN.{length}
 use borrow.Author.Tests.{eqb-true, ltb-true, leb-true, ne-eqb, lt-ltb, le-leb}
 use Rattle.tables.specs.declared.refusal.Checked.{Checked}
 use Rattle.tables.specs.declared.refusal.Checked.the-variants.{Fine}
-use Rattle.tables.specs.Limits.{usedLimit, wordLimit}
+use Rattle.tables.specs.Limits.{usedLimit}
 use Rattle.tables.specs.Words.{steps, axis, nodes, parent, tag, Bits16}
 use Rattle.tables.specs.Patterns.{Pattern}
 use Rattle.tables.specs.Documents.{Doc, bare, mark, Sound}
