@@ -50,12 +50,12 @@ typedef struct argument {
 } argument;
 
 static uint16_t words_of_r[TABLE_WORDS], words_of_p[TABLE_WORDS], words_of_x[TABLE_WORDS], words_of_t[TABLE_WORDS];
-static uint8_t bytes_of_m[TABLE_BYTES], bytes_of_y[TABLE_BYTES];
+static uint8_t bytes_of_l[TABLE_BYTES], bytes_of_m[TABLE_BYTES], bytes_of_y[TABLE_BYTES];
 
 static argument arguments[] = {
     {'r', WORDS, words_of_r, NULL, 0}, {'p', WORDS, words_of_p, NULL, 0}, {'x', WORDS, words_of_x, NULL, 0},
-    {'t', WORDS, words_of_t, NULL, 0}, {'m', BYTES, NULL, bytes_of_m, 0}, {'y', BYTES, NULL, bytes_of_y, 0},
-    {'u', NUMBER, NULL, NULL, 0},      {'v', NUMBER, NULL, NULL, 0},
+    {'t', WORDS, words_of_t, NULL, 0}, {'l', BYTES, NULL, bytes_of_l, 0}, {'m', BYTES, NULL, bytes_of_m, 0},
+    {'y', BYTES, NULL, bytes_of_y, 0}, {'u', NUMBER, NULL, NULL, 0},      {'v', NUMBER, NULL, NULL, 0},
 };
 
 /* The table or number of this letter, or NULL. */
@@ -148,6 +148,14 @@ static sloefertand_answer write_line(const argument *a) {
     return sloefertand_write_line(a[0].words, a[0].size, a[1].bytes, a[1].size);
 }
 
+static sloefertand_answer read_pattern(const argument *a) {
+    return sloefertand_read_pattern(a[0].bytes, a[0].size, a[1].bytes, a[1].size, a[2].words, a[2].size);
+}
+
+static sloefertand_answer write_pattern(const argument *a) {
+    return sloefertand_write_pattern(a[0].bytes, a[0].size, a[1].words, a[1].size, a[2].bytes, a[2].size);
+}
+
 static sloefertand_answer print_plan(const argument *a) {
     return sloefertand_print(a[0].bytes, a[0].size, a[1].bytes, a[1].size);
 }
@@ -168,6 +176,8 @@ static const function functions[] = {
     {"plan", plan, 1, {{"batch", 'x'}, {"plan", 't'}}},
     {"read_line", read_line, 1, {{"line", 'm'}, {"number", 'u'}, {"words", 't'}}},
     {"write_line", write_line, 1, {{"words", 'x'}, {"line", 'y'}}},
+    {"read_pattern", read_pattern, 1, {{"list", 'l'}, {"text", 'm'}, {"words", 't'}}},
+    {"write_pattern", write_pattern, 1, {{"list", 'l'}, {"pattern", 'r'}, {"text", 'y'}}},
     {"print", print_plan, 1, {{"lines", 'm'}, {"text", 'y'}}},
 };
 
@@ -424,14 +434,19 @@ static void fill(argument *a, text rest) {
     }
 }
 
-/* Puts bytes behind those of m. */
-static void append(const char *bytes, size_t count) {
-    argument *m = argument_of('m');
-    if (TABLE_BYTES - m->size < count) {
+/* Puts a byte behind those of a table. */
+static void append_byte(argument *a, char byte) {
+    if (a->size == TABLE_BYTES) {
         fail("more bytes than a table has");
     }
-    memcpy(m->bytes + m->size, bytes, count);
-    m->size += count;
+    a->bytes[a->size++] = (uint8_t)byte;
+}
+
+/* Puts a text behind the bytes of a table, with another byte in place of each space. */
+static void append(argument *a, text t, char space) {
+    for (; t.at < t.end; t.at++) {
+        append_byte(a, *t.at == ' ' ? space : *t.at);
+    }
 }
 
 /* Prints a text as it stands. */
@@ -495,11 +510,15 @@ static void obey(text line) {
         printf("\n");
         break;
     case '+':
-        append(line.at, length(line));
-        append("\n", 1);
+        append(argument_of('m'), line, ' ');
+        append_byte(argument_of('m'), '\n');
         break;
     case '-':
-        append(line.at, length(line));
+        append(argument_of('m'), line, ' ');
+        break;
+    case '>':
+        append(argument_of('l'), line, '\n');
+        append_byte(argument_of('l'), '\n');
         break;
     case '!':
         call_named(line);

@@ -1,6 +1,7 @@
 /* Measures the stack that each call of the library takes. A call runs on a stack of its own, which is filled with one byte before;
  * the deepest byte that changed says how far it went, less what a call of nothing takes. Patterns have 64 steps, inserted trees 256
- * nodes, the batch fills its words, a plain reading has 8 steps on 16 nodes: the longest of each, so that every inside is reached.
+ * nodes, the batch fills its words, a plain reading has 8 steps on 16 nodes, a list has 256 names: the longest of each, so that every
+ * inside is reached.
  *
  * Prints a line a function: its bytes, and the most that the header says. Status 1 where one takes more than that; 2 where a call
  * was refused, and so measured nothing. */
@@ -22,7 +23,9 @@ static uint16_t rows[2 * SLOEFERTAND_USED_NODES], batch[SLOEFERTAND_BATCH_WORDS]
 static uint8_t marks[SLOEFERTAND_USED_NODES], row[SLOEFERTAND_USED_NODES];
 static uint16_t witness[SLOEFERTAND_WITNESS_WORDS], plan[SLOEFERTAND_FRAMES], words[SLOEFERTAND_LINE_WORDS];
 static uint8_t line[SLOEFERTAND_LINE_DIGITS], lines[4 * SLOEFERTAND_BATCH_WORDS + SLOEFERTAND_FRAMES], text[SLOEFERTAND_PLAN_BYTES];
-static size_t batch_words, line_bytes, lines_bytes;
+static uint8_t list[5 * SLOEFERTAND_NAMES], pattern_text[6 * SLOEFERTAND_STEPS];
+static uint16_t named[SLOEFERTAND_PATTERN_WORDS];
+static size_t batch_words, line_bytes, lines_bytes, list_bytes, pattern_text_bytes;
 
 static sloefertand_answer answer;
 
@@ -54,6 +57,12 @@ static void step(void) { answer = sloefertand_step(batch, batch_words, 0, 0); }
 static void planning(void) { answer = sloefertand_plan(batch, batch_words, plan, COUNT(plan)); }
 static void read_line(void) { answer = sloefertand_read_line(line, line_bytes, 1, words, COUNT(words)); }
 static void write_line(void) { answer = sloefertand_write_line(batch, COUNT(words), line, COUNT(line)); }
+static void read_pattern(void) {
+    answer = sloefertand_read_pattern(list, list_bytes, pattern_text, pattern_text_bytes, named, COUNT(named));
+}
+static void write_pattern(void) {
+    answer = sloefertand_write_pattern(list, list_bytes, named, COUNT(named), pattern_text, COUNT(pattern_text));
+}
 static void printing(void) { answer = sloefertand_print(lines, lines_bytes, text, COUNT(text)); }
 
 /* Each function with the most bytes that the header says; deleting is last of those on the document, which it empties. */
@@ -77,6 +86,8 @@ static const struct measured {
     {"plan", planning, 27000},
     {"write_line", write_line, 2000},
     {"read_line", read_line, 2000},
+    {"write_pattern", write_pattern, 10000},
+    {"read_pattern", read_pattern, 10000},
     {"print", printing, 62000},
 };
 
@@ -115,6 +126,19 @@ static void fill_batch(void) {
     line_bytes = sloefertand_write_line(insert, COUNT(insert), line, COUNT(line)).first;
 }
 
+/* As many names as a list may have, and the text of a pattern whose steps have the last of them. */
+static void fill_texts(void) {
+    for (unsigned i = 0; i < SLOEFERTAND_NAMES; i++) {
+        list_bytes += (size_t)sprintf((char *)list + list_bytes, "n%u\n", i);
+    }
+    for (size_t i = 0; i < SLOEFERTAND_STEPS; i++) {
+        named[2 * i] = i == 0 ? 0 : 2;
+        named[2 * i + 1] = SLOEFERTAND_NAMES;
+    }
+    pattern_text_bytes =
+        sloefertand_write_pattern(list, list_bytes, named, COUNT(named), pattern_text, COUNT(pattern_text)).first;
+}
+
 static unsigned char stack[1u << 20];
 static ucontext_t here, there;
 
@@ -143,6 +167,7 @@ int main(void) {
     fill_chain(plain_tree, SLOEFERTAND_PLAIN_NODES);
     fill_chain(rows, USED);
     fill_batch();
+    fill_texts();
     least = taken(nothing);
     for (size_t i = 0; i < COUNT(calls); i++) {
         size_t bytes = taken(calls[i].call) - least;

@@ -1,12 +1,12 @@
 /*
- * Sloefertand for C and C++: reading and updating a tree held in tables, conflict verdicts, and the plan of a batch.
- * Link with libsloefertand.a, which wants the C library's memset and, on x86-64, nothing else. The library has no state and no
- * heap, prints nothing and always returns: calls on several threads are fine where no output is shared.
+ * Sloefertand for C and C++: reading and updating a tree held in tables, conflict verdicts, the plan of a batch, patterns as text.
+ * Link with libsloefertand.a, which wants the C library's memset and memcpy and, on x86-64, nothing else. The library has no state
+ * and no heap, prints nothing and always returns: calls on several threads are fine where no output is shared.
  *
  * STACK
  * What a call keeps for itself is on the stack. On x86-64 print takes at most 62,000 bytes of it; plan 27,000; insert_verdict and
- * deep_insert_verdict 26,000; delete_verdict and deep_delete_verdict 10,000; insert and delete 5,000; each other call 2,000. These
- * are measured, by boundary/stack.c on the longest patterns, trees and batches, and not proved.
+ * deep_insert_verdict 26,000; delete_verdict, deep_delete_verdict, read_pattern and write_pattern 10,000; insert and delete 5,000;
+ * each other call 2,000. These are measured, by boundary/stack.c on the longest patterns, trees, batches and lists, and not proved.
  *
  * BUFFERS
  * A buffer is a pointer and, behind it, its length in elements (uint16_t words or bytes, not sizeof). The caller answers for
@@ -41,8 +41,12 @@
  *   11  an insert without room                                                      0
  *   12  a wrong used count or mark                                                  0
  *   13  a malformed line                                                            line
- * Steps, nodes and frames are counted from 0, lines from 1. The table at fault: 1 read, 2 update, 3 inserted tree, 4 output or
- * room, 5 document, 6 batch. In a batch the table is 6 and the place the frame, except for 7 (table 4, place 0) and for words.
+ *   14  a list of names that breaks (table 8)                                       entry
+ *       text that is no pattern's (table 7)                                         length of its longest start that fits
+ *   15  a name that is not listed; a label without a name                           step
+ * Steps, nodes, frames and entries are counted from 0, lines from 1. The table at fault: 1 read, or a pattern on its own,
+ * 2 update, 3 inserted tree, 4 output or room, 5 document, 6 batch, 7 text of a pattern, 8 list of names. In a batch the table is 6
+ * and the place the frame, except for 7 (table 4, place 0) and for words.
  * Each function names its refusals in the order in which it looks for them; the first that applies is given.
  */
 #ifndef SLOEFERTAND_H
@@ -65,6 +69,8 @@ extern "C" {
 #define SLOEFERTAND_BATCH_WORDS 16384u
 #define SLOEFERTAND_LINE_DIGITS 2572u   /* digits and words of a line: the longest is an insert of 64 steps and 256 nodes */
 #define SLOEFERTAND_LINE_WORDS 643u
+#define SLOEFERTAND_NAMES 256u          /* names of a list */
+#define SLOEFERTAND_PATTERN_WORDS 128u  /* words with room for any pattern */
 #define SLOEFERTAND_WITNESS_WORDS 254u  /* words with room for the witness of any verdict */
 #define SLOEFERTAND_PLAN_BYTES 1664u    /* bytes with room for any printed plan */
 
@@ -175,6 +181,28 @@ sloefertand_answer sloefertand_write_line(const uint16_t *words, size_t words_wo
  * its frame. So a bad line is no refusal of this call. first: the bytes of the text. Refusal 7, of table 4, where `text` is too
  * short for them. SLOEFERTAND_PLAN_BYTES are always enough. */
 sloefertand_answer sloefertand_print(const uint8_t *lines, size_t lines_bytes, uint8_t *text, size_t text_bytes);
+
+/* PATTERNS AS TEXT, in the abbreviated form of XPath 1.0: / and a first step, then steps after / (child) or // (descendant). A
+ * step is * or a name. A list of names has at most 256 of them, each ended by a line feed and none twice; it may have none at all.
+ * A name's label is its place in the list, from 1. Neither names nor texts have a limit of their length.
+ * Characters are single bytes, code points 0 to 255 (ISO 8859-1, not UTF-8). Names are those of XML 1.0, fifth edition, that have
+ * no colon: a name starts with A to Z, a to z, _ or a byte of C0 to D6, D8 to F6 or F8 to FF (hexadecimal), and goes on with these,
+ * 0 to 9, -, . and B7. */
+
+/* Reads `text` with the names of `list` into `words`, as a pattern. first: the words, two a step.
+ * Refusals: 14 of table 8 where the list breaks: at a character that is wrong or missing, at a name that stood before, or at the
+ * 257th; the place is that entry. 14 of table 7 where the text is no pattern's, by its form alone; the place is the length of its
+ * longest start that some right text has, so all of it where something is missing at its end. Then, of table 1, 2 where there are
+ * more than 64 steps, and 15 where a name is not listed; then 7. SLOEFERTAND_PATTERN_WORDS are always enough. */
+sloefertand_answer sloefertand_read_pattern(const uint8_t *list, size_t list_bytes, const uint8_t *text, size_t text_bytes,
+                                            uint16_t *words, size_t words_words);
+
+/* Writes a pattern with the names of `list` as text, without a line feed. first: the bytes. What is written is read as the same
+ * pattern, and what was read is written as the same text.
+ * Refusals: 14 of table 8, as above; the pattern's (1, 2, 3 of table 1); 15 of table 1 where a label has no name; 7. Two bytes a
+ * step, and those of its name or star, are always enough. */
+sloefertand_answer sloefertand_write_pattern(const uint8_t *list, size_t list_bytes, const uint16_t *pattern, size_t pattern_words,
+                                             uint8_t *text, size_t text_bytes);
 
 #ifdef __cplusplus
 }

@@ -1,5 +1,6 @@
-/* What a program in C does with the library: it plans a batch, reads a line, asks for verdicts, reads a document and meets a refusal.
- * examples/run builds and runs it. Names a to e are the labels 1 to 5. */
+/* What a program in C does with the library: it plans a batch, reads a line, asks for verdicts, reads a document, reads and writes
+ * patterns as text and meets refusals. examples/run builds and runs it. Names a to e are the labels 1 to 5; the patterns as text have
+ * names of their own. */
 #include <stdint.h>
 #include <stdio.h>
 #include <string.h>
@@ -98,6 +99,74 @@ static void show_read(const uint16_t *pattern, size_t pattern_words) {
     printf("\n");
 }
 
+/* A planner's names, each ended by a line feed: a name's label is its place, from 1. */
+static const char names[] = "chart\ncell\npermit\n";
+
+/* Reads a pattern from its text into words, of which there are enough for any; the answer is the library's. */
+static sloefertand_answer read_text(const char *text, uint16_t *words) {
+    return sloefertand_read_pattern((const uint8_t *)names, strlen(names), (const uint8_t *)text, strlen(text), words,
+                                    SLOEFERTAND_PATTERN_WORDS);
+}
+
+/* Says in words why a text is refused: a caret shows how far it is right, or the step is told whose name is not listed. */
+static void show_why(const char *text, sloefertand_answer answer) {
+    if (answer.refusal == 14 && answer.table == 7) {
+        const char *why = answer.place == strlen(text) ? "no pattern ends so" : "no pattern goes on so";
+        printf("%*s^ %s\n", (int)answer.place, "", why);
+    } else if (answer.refusal == 15) {
+        printf("step %zu has a name that is not listed\n", answer.place);
+    } else {
+        refused(answer);
+    }
+}
+
+/* A text and its pattern's words, or why it is refused. */
+static void show_pattern(const char *text) {
+    uint16_t words[SLOEFERTAND_PATTERN_WORDS];
+    sloefertand_answer read = read_text(text, words);
+    printf("%s\n", text);
+    if (read.refusal != 0) {
+        show_why(text, read);
+        return;
+    }
+    for (size_t i = 0; i < read.first; i++) {
+        printf(i == 0 ? "%u" : " %u", (unsigned)words[i]);
+    }
+    printf("\n");
+}
+
+/* A smallest witness is a chain: the path down to its last node, written as a pattern of child steps. */
+static void show_path(uint16_t *witness, size_t nodes) {
+    char text[1000];
+    for (size_t node = 0; node < nodes; node++) {
+        witness[2 * node] = node == 0 ? 0 : 1;
+    }
+    sloefertand_answer written =
+        sloefertand_write_pattern((const uint8_t *)names, strlen(names), witness, 2 * nodes, (uint8_t *)text, COUNT(text));
+    if (!refused(written)) {
+        printf("conflict, shown by %.*s\n", (int)written.first, text);
+    }
+}
+
+/* Whether a read and a delete conflict, all as text. */
+static void show_text_verdict(const char *read, const char *update) {
+    uint16_t read_words[SLOEFERTAND_PATTERN_WORDS], update_words[SLOEFERTAND_PATTERN_WORDS], witness[SLOEFERTAND_WITNESS_WORDS];
+    sloefertand_answer reading = read_text(read, read_words), updating = read_text(update, update_words);
+    if (refused(reading) || refused(updating)) {
+        return;
+    }
+    sloefertand_answer verdict =
+        sloefertand_delete_verdict(read_words, reading.first, update_words, updating.first, witness, COUNT(witness));
+    if (refused(verdict)) {
+        return;
+    }
+    if (verdict.first == 0) {
+        printf("no conflict\n");
+        return;
+    }
+    show_path(witness, verdict.first);
+}
+
 int main(void) {
     static const uint16_t batch[] = {
         3, 2, 0, 1, 1, 2,          /* delete a/b */
@@ -121,6 +190,15 @@ int main(void) {
 
     printf("\nread a//c of a document\n");
     show_read(a_any_c, COUNT(a_any_c));
+
+    printf("\nread /chart//permit, delete /chart/cell\n");
+    show_text_verdict("/chart//permit", "/chart/cell");
+
+    printf("\npatterns as text, and texts that are refused\n");
+    show_pattern("/chart//*/permit");
+    show_pattern("/chart//cell:permit");
+    show_pattern("/chart/cell/");
+    show_pattern("/chart/buoy");
 
     printf("\nread a//c, delete a\n");
     show_verdict(a_any_c, COUNT(a_any_c), only_a, COUNT(only_a));

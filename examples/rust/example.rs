@@ -1,12 +1,14 @@
-//! What a program in Rust does with the library: it plans a batch, reads a line, asks for verdicts, reads a document and meets a refusal.
-//! `examples/run` builds and runs it. Names a to e are the labels 1 to 5.
+//! What a program in Rust does with the library: it plans a batch, reads a line, asks for verdicts, reads a document, reads and writes
+//! patterns as text and meets refusals. `examples/run` builds and runs it. Names a to e are the labels 1 to 5; the patterns as text have
+//! names of their own.
 
 /// The library behind safe functions over slices: `include/sloefertand.h` says what each promises and refuses.
 mod sloefertand {
-    /// Words with room for the plan of any batch, for the witness of any verdict, and for any line.
+    /// Words with room for the plan of any batch, for the witness of any verdict, for any line, and for any pattern.
     pub const FRAMES: usize = 128;
     pub const WITNESS_WORDS: usize = 254;
     pub const LINE_WORDS: usize = 643;
+    pub const PATTERN_WORDS: usize = 128;
 
     /// What every exported function returns.
     #[repr(C)]
@@ -91,6 +93,22 @@ mod sloefertand {
                 number: usize,
                 words: *mut u16,
                 words_words: usize,
+            ) -> Answer;
+            pub fn sloefertand_read_pattern(
+                list: *const u8,
+                list_bytes: usize,
+                text: *const u8,
+                text_bytes: usize,
+                words: *mut u16,
+                words_words: usize,
+            ) -> Answer;
+            pub fn sloefertand_write_pattern(
+                list: *const u8,
+                list_bytes: usize,
+                pattern: *const u16,
+                pattern_words: usize,
+                text: *mut u8,
+                text_bytes: usize,
             ) -> Answer;
         }
     }
@@ -180,6 +198,36 @@ mod sloefertand {
         };
         answer.values().map(|values| values.first)
     }
+
+    /// The number of words of a pattern given as text; they are written to `words`. A name's label is its place in the list, from 1.
+    pub fn read_pattern(list: &[u8], text: &[u8], words: &mut [u16]) -> Result<usize, Refusal> {
+        let answer = unsafe {
+            exported::sloefertand_read_pattern(
+                list.as_ptr(),
+                list.len(),
+                text.as_ptr(),
+                text.len(),
+                words.as_mut_ptr(),
+                words.len(),
+            )
+        };
+        answer.values().map(|values| values.first)
+    }
+
+    /// The number of bytes of a pattern's text, which is written to `text`.
+    pub fn write_pattern(list: &[u8], pattern: &[u16], text: &mut [u8]) -> Result<usize, Refusal> {
+        let answer = unsafe {
+            exported::sloefertand_write_pattern(
+                list.as_ptr(),
+                list.len(),
+                pattern.as_ptr(),
+                pattern.len(),
+                text.as_mut_ptr(),
+                text.len(),
+            )
+        };
+        answer.values().map(|values| values.first)
+    }
 }
 
 use sloefertand::Refusal;
@@ -257,6 +305,66 @@ fn show_read(pattern: &[u16]) -> Result<(), Refusal> {
     Ok(())
 }
 
+/// A planner's names, each ended by a line feed: a name's label is its place, from 1.
+const NAMES: &[u8] = b"chart\ncell\npermit\n";
+
+/// The words of a pattern given as text.
+fn pattern_of(text: &str) -> Result<Vec<u16>, Refusal> {
+    let mut words = [0; sloefertand::PATTERN_WORDS];
+    let count = sloefertand::read_pattern(NAMES, text.as_bytes(), &mut words)?;
+    Ok(words[..count].to_vec())
+}
+
+/// Says in words why a text is refused: a caret shows how far it is right, or the step is told whose name is not listed.
+fn show_why(text: &str, refusal: Refusal) {
+    match (refusal.number, refusal.table) {
+        (14, 7) if refusal.place == text.len() => {
+            println!("{:1$}^ no pattern ends so", "", refusal.place)
+        }
+        (14, 7) => println!("{:1$}^ no pattern goes on so", "", refusal.place),
+        (15, _) => println!("step {} has a name that is not listed", refusal.place),
+        _ => show_refusal(refusal),
+    }
+}
+
+/// A text and its pattern's words, or why it is refused.
+fn show_pattern(text: &str) {
+    println!("{text}");
+    match pattern_of(text) {
+        Ok(words) => {
+            let words: Vec<String> = words.iter().map(u16::to_string).collect();
+            println!("{}", words.join(" "));
+        }
+        Err(refusal) => show_why(text, refusal),
+    }
+}
+
+/// A smallest witness is a chain: the path down to its last node, written as a pattern of child steps.
+fn show_path(witness: &mut [u16]) -> Result<(), Refusal> {
+    for (node, words) in witness.chunks_mut(2).enumerate() {
+        words[0] = u16::from(node > 0);
+    }
+    let mut text = [0; 1000];
+    let bytes = sloefertand::write_pattern(NAMES, witness, &mut text)?;
+    println!(
+        "conflict, shown by {}",
+        String::from_utf8_lossy(&text[..bytes])
+    );
+    Ok(())
+}
+
+/// Whether a read and a delete conflict, all as text.
+fn show_text_verdict(read: &str, update: &str) -> Result<(), Refusal> {
+    let (read, update) = (pattern_of(read)?, pattern_of(update)?);
+    let mut witness = [0; sloefertand::WITNESS_WORDS];
+    let nodes = sloefertand::delete_verdict(&read, &update, &mut witness)?;
+    if nodes == 0 {
+        println!("no conflict");
+        return Ok(());
+    }
+    show_path(&mut witness[..2 * nodes])
+}
+
 fn show_all() -> Result<(), Refusal> {
     let batch = [
         3, 2, 0, 1, 1, 2, // delete a/b
@@ -281,15 +389,29 @@ fn show_all() -> Result<(), Refusal> {
     println!("\nread a//c of a document");
     show_read(&A_ANY_C)?;
 
+    println!("\nread /chart//permit, delete /chart/cell");
+    show_text_verdict("/chart//permit", "/chart/cell")?;
+
+    println!("\npatterns as text, and texts that are refused");
+    show_pattern("/chart//*/permit");
+    show_pattern("/chart//cell:permit");
+    show_pattern("/chart/cell/");
+    show_pattern("/chart/buoy");
+
     println!("\nread a//c, delete a");
     show_verdict(&A_ANY_C, &ONLY_A)
 }
 
+/// A refusal by its three numbers.
+fn show_refusal(refusal: Refusal) {
+    println!(
+        "refusal {}, table {}, place {}",
+        refusal.number, refusal.table, refusal.place
+    );
+}
+
 fn main() {
     if let Err(refusal) = show_all() {
-        println!(
-            "refusal {}, table {}, place {}",
-            refusal.number, refusal.table, refusal.place
-        );
+        show_refusal(refusal);
     }
 }

@@ -1,4 +1,4 @@
-//! Sloefertand's second program: four tables, found by trying all small trees.
+//! Sloefertand's second program: five tables, found by trying all small trees and making all small texts.
 
 mod batch;
 mod classes;
@@ -9,14 +9,21 @@ mod document;
 mod documents;
 #[cfg(test)]
 mod examples;
+mod letters;
 mod limits;
 mod node_set;
 mod numbering;
 mod pairs;
 mod pattern;
+mod pattern_texts;
 mod placing;
 mod plans;
 mod refusal;
+mod right_lists;
+mod right_texts;
+mod rows;
+mod single_bytes;
+mod texts;
 mod tree;
 mod two_damages;
 mod updates;
@@ -30,7 +37,7 @@ use std::ffi::OsString;
 use std::io::{self, BufWriter, Write};
 use std::process::ExitCode;
 
-const USAGE: &str = "usage: second [pairs | documents | damage | plans | counts]";
+const USAGE: &str = "usage: second [pairs | documents | damage | plans | texts | counts]";
 
 /// What is asked for.
 #[derive(Clone, Copy, PartialEq, Eq)]
@@ -40,6 +47,7 @@ enum Wanted {
     Documents,
     Damage,
     Plans,
+    Texts,
     Counts,
 }
 
@@ -52,6 +60,7 @@ fn wanted(arguments: &[OsString]) -> Option<Wanted> {
             "documents" => Some(Wanted::Documents),
             "damage" => Some(Wanted::Damage),
             "plans" => Some(Wanted::Plans),
+            "texts" => Some(Wanted::Texts),
             "counts" => Some(Wanted::Counts),
             _ => None,
         },
@@ -59,13 +68,14 @@ fn wanted(arguments: &[OsString]) -> Option<Wanted> {
     }
 }
 
-/// Writes the four tables in order and gives all their counts.
+/// Writes the five tables in order and gives all their counts.
 fn write_all(numbering: &Numbering, out: &mut dyn Write) -> io::Result<counts::Counts> {
     let pairs = Pairs::tried(numbering);
     let mut counts = pairs.write(out)?;
     counts.extend(documents::write(numbering, out)?);
     counts.extend(damage::write(out)?);
     counts.extend(plans::write(numbering, &pairs, out)?);
+    counts.extend(texts::write(out)?);
     Ok(counts)
 }
 
@@ -87,6 +97,9 @@ fn run(wanted: Wanted, out: &mut dyn Write) -> io::Result<()> {
         }
         Wanted::Plans => {
             plans::write(&numbering, &Pairs::tried(&numbering), out)?;
+        }
+        Wanted::Texts => {
+            texts::write(out)?;
         }
         Wanted::Counts => counts::write(&write_all(&numbering, &mut io::sink())?, out)?,
     }

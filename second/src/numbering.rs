@@ -40,7 +40,7 @@ impl Update {
 }
 
 impl Numbering {
-    /// The numbering that the four tables use.
+    /// The numbering that the tables of trees use.
     pub fn full() -> Numbering {
         Numbering::up_to(MOST_STEPS, MOST_INSERTED)
     }

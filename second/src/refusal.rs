@@ -2,6 +2,9 @@
 
 use std::fmt;
 
+/// The table at fault when a read's pattern is, or any that is no update's.
+pub const READ: usize = 1;
+
 /// The table at fault when an update's pattern is.
 pub const UPDATE: usize = 2;
 
@@ -11,6 +14,12 @@ pub const ROOM: usize = 4;
 /// The table at fault in a batch.
 pub const BATCH: usize = 6;
 
+/// The table at fault when a pattern's text is.
+pub const TEXT: usize = 7;
+
+/// The table at fault when a list of names is.
+pub const LIST: usize = 8;
+
 /// Refusal numbers by what they are given for.
 pub mod number {
     pub const NO_WORDS: usize = 1;
@@ -19,10 +28,13 @@ pub mod number {
     pub const WRONG_PARENT: usize = 4;
     pub const LABEL_ZERO: usize = 5;
     pub const DELETE_ROOT: usize = 6;
+    pub const TOO_SHORT: usize = 7;
     pub const WRONG_KIND: usize = 8;
     pub const FRAME_ENDS: usize = 9;
     pub const TOO_MANY: usize = 10;
     pub const NO_ROOM: usize = 11;
+    pub const WRONG_TEXT: usize = 14;
+    pub const NO_NAME: usize = 15;
 }
 
 /// A refusal.

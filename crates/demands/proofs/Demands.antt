@@ -39,12 +39,17 @@ use Rattle.batch_walk.proofs.Laws.{refused-stays, over-stays}
 use Rattle.batch_walk.proofs.Walk.{parts-join, walk-frames, walk-over, walk-whole, walk-before, walk-refused}
 use Rattle.text_digits.specs.Digits.{wordsOf, lineOf}
 use Rattle.text_digits.proofs.Returning.{length-wordsOf, length-lineOf}
+use Rattle.text_names.specs.Names.{lines}
+use Rattle.text_names.proofs.Lists.{list-right, right-list}
+use Rattle.text_pattern.specs.Meaning.{stepsOf, wordsOf as patternOf, textOf}
+use Rattle.text_pattern.proofs.Returning.{length-words}
 use Rattle.text_printer.proofs.Settled.{printed-one}
 use Rattle.text_printer.proofs.Enough.{room-enough}
 use Rattle.text_printer.proofs.Behind.{prints-first}
 use Rattle.demands.specs.Demands.{DemandOne, DemandTwo, Start, DemandThree, Besides}
-use Rattle.demands.proofs.Thirteen.{stops}
+use Rattle.demands.proofs.Numbering.{stops}
 use Rattle.demands.proofs.Orders as orders
+use Rattle.demands.proofs.Texts.{lists-place, list-lines, texts, texts-place, text-steps, written-reads, read-writes}
 use Rattle.demands.proofs.Updates.{deleted-by, inserted-by}
 use Rattle.demands.proofs.Agreeing.{readings-agree}
 use Rattle.demands.proofs.Keeping.{keeps-order, order-keeps}
@@ -66,6 +71,12 @@ demand-one =
       plans = orders.plans;
       lines-in = orders.lines-in;
       lines-out = orders.lines-out;
+      patterns-in = orders.patterns-in;
+      patterns-out = orders.patterns-out;
+      lists = λ l. (list-right l, right-list l);
+      lists-place = lists-place;
+      texts = texts;
+      texts-place = texts-place;
       prints = orders.prints;
       prints-one = printed-one;
       prints-refusal = λ s line why h. stops h;
@@ -148,6 +159,10 @@ besides =
       walk-before = λ b why refused. walk-before b refused;
       walk-refused = λ b why refused. walk-refused b refused;
       walk-parts = parts-join;
+      list-names = list-lines;
+      text-steps = text-steps;
+      written-reads = written-reads;
+      read-writes = read-writes;
       clear-stays = λ r u before after h. h .kept;
       witness-behind = λ r u before after n h. (h .long, h .behind);
       marks-behind = λ p d marks n h. (delete-length p d h, delete-behind p d h);
@@ -156,6 +171,8 @@ besides =
       words-behind = λ s line before after n h. behind (wordsOf s) before (h .1 ∙ sym (length-wordsOf s)) (h .2);
       digits-behind = λ ws before after n h. behind (lineOf ws) before (h .1 ∙ sym (length-lineOf ws)) (h .2);
       bytes-behind = λ s before after n h. behind (h .text) before (h .answered .1) (h .answered .2);
+      pattern-behind = λ l s before after n h. behind (patternOf (lines l) (stepsOf s)) before (h .1 ∙ sym (length-words (lines l) (stepsOf s))) (h .2);
+      text-behind = λ l p before after n h. behind (textOf (lines l) p) before (h .1) (h .2);
       output-enough = λ s before after why h. room-enough h refl;
       input-enough = prints-first;
       examples = marked;

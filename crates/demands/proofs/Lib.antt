@@ -1,6 +1,7 @@
 -- The demands, proved.
-pub mod Thirteen
+pub mod Numbering
 pub mod Orders
+pub mod Texts
 pub mod Updates
 pub mod Agreeing
 pub mod Keeping

@@ -48,19 +48,21 @@ use Rattle.outcomes.specs.declared.texts.Parsed.the-variants as parsed
 use Rattle.text_line_out.specs.Spelling.{WrittenAs}
 use Rattle.outcomes.specs.declared.texts.Spelled.{Spelled}
 use Rattle.outcomes.specs.declared.texts.Spelled.the-variants as spelled
+use Rattle.text_pattern_in.specs.Reading.{readTextCheck, ReadText}
+use Rattle.text_pattern_out.specs.Writing.{writeTextCheck, WriteText}
 use Rattle.text_printer.specs.Printer.{PrintedAs}
 use Rattle.outcomes.specs.declared.texts.Printed.{Printed}
 use Rattle.outcomes.specs.declared.texts.Printed.the-variants as printed
 use Rattle.demands.specs.Demands.{ByOrder, Nothing}
-use Rattle.demands.proofs.Thirteen as thirteen
-use Rattle.demands.proofs.Thirteen.{Thirteen}
+use Rattle.demands.proofs.Numbering as numbering
+use Rattle.demands.proofs.Numbering.{OnlyNumbered}
 
 -- an order that is fine, and one that refuses
 module _ {order : Checked} {Kept : Type 0} where
   was-fine : {a : Answer} → order ≡ Fine → a .refusal ≡ 0 → ByOrder order a Kept
   was-fine fine e = record { works = λ f. e; refused = λ why r. never r fine }
 
-  was-refused : {why : Refusal} → Thirteen order → order ≡ Refused why → Kept → ByOrder order (refusing why) Kept
+  was-refused : {why : Refusal} → OnlyNumbered order → order ≡ Refused why → Kept → ByOrder order (refusing why) Kept
   was-refused {why} all r kept =
       record {
         works = λ f. never r f;
@@ -72,35 +74,35 @@ module _ {order : Checked} {Kept : Type 0} where
   told each t = rw (t .shown) (each (t .answer) (t .promised))
 
 -- a check by itself
-checks : {Kept : Type 0} (c : Checked) → Thirteen c → ((why : Refusal) → c ≡ Refused why → Kept) → ByOrder c (ofChecked c) Kept
+checks : {Kept : Type 0} (c : Checked) → OnlyNumbered c → ((why : Refusal) → c ≡ Refused why → Kept) → ByOrder c (ofChecked c) Kept
 checks Fine all kept = was-fine refl refl
 checks (Refused why) all kept = was-refused all refl (kept why refl)
 
 pub patterns : (p : List ℕ) (limit table : ℕ) → ByOrder (patternCheck p limit table) (ofChecked (patternCheck p limit table)) Nothing
-patterns p limit table = checks (patternCheck p limit table) (thirteen.patterns p limit table) (λ why e. tt)
+patterns p limit table = checks (patternCheck p limit table) (numbering.patterns p limit table) (λ why e. tt)
 
 pub trees : (t : List ℕ) (limit table : ℕ) → ByOrder (treeCheck t limit table) (ofChecked (treeCheck t limit table)) Nothing
-trees t limit table = checks (treeCheck t limit table) (thirteen.trees t limit table) (λ why e. tt)
+trees t limit table = checks (treeCheck t limit table) (numbering.trees t limit table) (λ why e. tt)
 
 pub documents : (d : Doc) → ByOrder (documentCheck d) (ofChecked (documentCheck d)) Nothing
-documents d = checks (documentCheck d) (thirteen.documents d) (λ why e. tt)
+documents d = checks (documentCheck d) (numbering.documents d) (λ why e. tt)
 
 -- documents
 pub plains : (p t before after : List ℕ) (a : Answer) → Told ofChecked (PlainRead p t before after) a → ByOrder (plainCheck p t (length before)) a (after ≡ before)
 plains p t before after a =
-    told (λ x h. rw (← h .answered) (checks x (rw (h .answered) (thirteen.plains p t (length before))) (λ why e. rw e at (h .row))))
+    told (λ x h. rw (← h .answered) (checks x (rw (h .answered) (numbering.plains p t (length before))) (λ why e. rw e at (h .row))))
 
 pub reads : (p : List ℕ) (table : ℕ) (d : Doc) (before after : List ℕ) (a : Answer) → Told ofChecked (Read p table d before after) a
     → ByOrder (readCheck p table d (length before)) a (after ≡ before)
 reads p table d before after a =
-    told (λ x h. rw (← h .answered) (checks x (rw (h .answered) (thirteen.reads p table d (length before))) (λ why e. rw e at (h .row))))
+    told (λ x h. rw (← h .answered) (checks x (rw (h .answered) (numbering.reads p table d (length before))) (λ why e. rw e at (h .row))))
 
 pub deletes : (p : List ℕ) (d : Doc) (before after : List ℕ) (a : Answer) → Told ofDeleted (Delete p d before after) a → ByOrder (deleteCheck p d) a (after ≡ before)
 deletes p d before after a = told one
   where
     one : (x : Deleted) → Delete p d before after x → ByOrder (deleteCheck p d) (ofDeleted x) (after ≡ before)
     one (deleted.Removed n) h = was-fine (removed-fine _ _ (h .answered)) refl
-    one (deleted.Refused why) h = was-refused (thirteen.deletes p d) (kept-told _ _ (h .answered)) (delete-same h)
+    one (deleted.Refused why) h = was-refused (numbering.deletes p d) (kept-told _ _ (h .answered)) (delete-same h)
 
 pub inserts : (p x : List ℕ) (d : Doc) (rows₀ marks₀ rows₁ marks₁ : List ℕ) (a : Answer) → Told ofInserted (Insert p x d rows₀ marks₀ rows₁ marks₁) a
     → ByOrder (insertCheck p x d) a ((rows₁ ≡ rows₀) × (marks₁ ≡ marks₀))
@@ -108,7 +110,7 @@ inserts p x d rows₀ marks₀ rows₁ marks₁ a = told one
   where
     one : (y : Inserted) → Insert p x d rows₀ marks₀ rows₁ marks₁ y → ByOrder (insertCheck p x d) (ofInserted y) ((rows₁ ≡ rows₀) × (marks₁ ≡ marks₀))
     one (inserted.Copied n used) h = was-fine (copied-fine _ _ _ (sym (h .answered))) refl
-    one (inserted.Refused why) h = was-refused (thirteen.inserts p x d) (refused-told _ _ _ (sym (h .answered))) (insert-same h)
+    one (inserted.Refused why) h = was-refused (numbering.inserts p x d) (refused-told _ _ _ (sym (h .answered))) (insert-same h)
 
 -- verdicts
 pub verdicts : (r : List ℕ) (u : Update) (before after : List ℕ) (a : Answer) → Told ofVerdict (NodeVerdict r u before after) a
@@ -118,7 +120,7 @@ verdicts r u before after a = told one
     one : (x : Verdict) → NodeVerdict r u before after x → ByOrder (verdictCheck r u (length before)) (ofVerdict x) (after ≡ before)
     one verdict.Clear h = was-fine (h .fine) refl
     one (verdict.Conflict n) h = was-fine (h .fine) refl
-    one (verdict.Refused why) h = was-refused (thirteen.verdicts r u (length before)) (h .given) (h .kept)
+    one (verdict.Refused why) h = was-refused (numbering.verdicts r u (length before)) (h .given) (h .kept)
 
 pub deeps : (r : List ℕ) (u : Update) (a : Answer) → Told ofDeeply (DeepVerdict r u) a → ByOrder (deepCheck r u) a Nothing
 deeps r u a = told one
@@ -126,28 +128,28 @@ deeps r u a = told one
     one : (x : Deeply) → DeepVerdict r u x → ByOrder (deepCheck r u) (ofDeeply x) Nothing
     one deep.No h = was-fine (h .fine) refl
     one deep.Yes h = was-fine (h .fine) refl
-    one (deep.Refused why) h = was-refused (thirteen.deeps r u) h tt
+    one (deep.Refused why) h = was-refused (numbering.deeps r u) h tt
 
 -- batches
 pub walks : (b : List ℕ) (n at : ℕ) → ByOrder (walkCheck b n at) (ofStepped (stepAt b n at)) Nothing
 unfolding walkCheck stepAt frameAt
-walks b n at = go (leb (length b) batchLimit) (ltb at (length b)) (frameCheck b n at) (thirteen.frames b n at)
+walks b n at = go (leb (length b) batchLimit) (ltb at (length b)) (frameCheck b n at) (numbering.frames b n at)
   where
-    go : (s t : Bool) (c : Checked) → Thirteen c
+    go : (s t : Bool) (c : Checked) → OnlyNumbered c
         → ByOrder (test s (refuse 10 6 0) then cond t c Fine)
         (ofStepped (cond s (cond t (answerOf (answered c (frameOf b at))) walker.Over) (walker.Refused (record { number = 10; table = 6; place = 0 }))))
         Nothing
     go true true Fine all = was-fine refl refl
     go true true (Refused why) all = was-refused all refl tt
     go true false c all = was-fine refl refl
-    go false t c all = was-refused thirteen.ten refl tt
+    go false t c all = was-refused numbering.ten refl tt
 
 pub plans : (b before after : List ℕ) (a : Answer) → Told ofPlanned (Plan b before after) a → ByOrder (planCheck b (length before)) a (after ≡ before)
 plans b before after a = told one
   where
     one : (x : Planned) → Plan b before after x → ByOrder (planCheck b (length before)) (ofPlanned x) (after ≡ before)
     one (planned.Frames n) h = was-fine (h .0) refl
-    one (planned.Refused why) h = was-refused (thirteen.plans b (length before)) (h .0) (h .1)
+    one (planned.Refused why) h = was-refused (numbering.plans b (length before)) (h .0) (h .1)
 
 -- lines
 pub lines-in : (s : List ℕ) (line : ℕ) (before after : List ℕ) (a : Answer) → Told ofParsed (ReadAs s line before after) a
@@ -156,15 +158,29 @@ lines-in s line before after a = told one
   where
     one : (x : Parsed) → ReadAs s line before after x → ByOrder (lineCheck s line then outputCheck (length s / 4) (length before)) (ofParsed x) (after ≡ before)
     one (parsed.Words n) h = was-fine (h .0) refl
-    one (parsed.Refused why) h = was-refused (thirteen.lines-in s line (length before)) (h .0) (h .1)
+    one (parsed.Refused why) h = was-refused (numbering.lines-in s line (length before)) (h .0) (h .1)
 
 pub lines-out : (ws before after : List ℕ) (a : Answer) → Told ofSpelled (WrittenAs ws before after) a → ByOrder (outputCheck (4 * length ws) (length before)) a (after ≡ before)
 lines-out ws before after a = told one
   where
     one : (x : Spelled) → WrittenAs ws before after x → ByOrder (outputCheck (4 * length ws) (length before)) (ofSpelled x) (after ≡ before)
     one (spelled.Digits n) h = was-fine (h .0) refl
-    one (spelled.Refused why) h = was-refused (thirteen.lines-out ws (length before)) (h .0) (h .1)
+    one (spelled.Refused why) h = was-refused (numbering.lines-out ws (length before)) (h .0) (h .1)
+
+pub patterns-in : (l s before after : List ℕ) (a : Answer) → Told ofParsed (ReadText l s before after) a → ByOrder (readTextCheck l s (length before)) a (after ≡ before)
+patterns-in l s before after a = told one
+  where
+    one : (x : Parsed) → ReadText l s before after x → ByOrder (readTextCheck l s (length before)) (ofParsed x) (after ≡ before)
+    one (parsed.Words n) h = was-fine (h .0) refl
+    one (parsed.Refused why) h = was-refused (numbering.patterns-in l s (length before)) (h .0) (h .1)
+
+pub patterns-out : (l p before after : List ℕ) (a : Answer) → Told ofPrinted (WriteText l p before after) a → ByOrder (writeTextCheck l p (length before)) a (after ≡ before)
+patterns-out l p before after a = told one
+  where
+    one : (x : Printed) → WriteText l p before after x → ByOrder (writeTextCheck l p (length before)) (ofPrinted x) (after ≡ before)
+    one (printed.Bytes n) h = was-fine (h .0) refl
+    one (printed.Refused why) h = was-refused (numbering.patterns-out l p (length before)) (h .0) (h .1)
 
 pub prints : (s before after : List ℕ) (answer : Printed) (h : PrintedAs s before after answer) → ByOrder (outputCheck (length (h .text)) (length before)) (ofPrinted answer) (after ≡ before)
 prints s before after (printed.Bytes n) h = was-fine (h .answered .0) refl
-prints s before after (printed.Refused why) h = was-refused (thirteen.outputs (length (h .text)) (length before)) (h .answered .0) (h .answered .1)
+prints s before after (printed.Refused why) h = was-refused (numbering.outputs (length (h .text)) (length before)) (h .answered .0) (h .answered .1)

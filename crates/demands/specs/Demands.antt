@@ -3,8 +3,8 @@
 --   DemandOne     each call's refusals, by its order of checks
 --   DemandTwo     the verdict and its witness; reading, deleting and inserting, by embeddings
 --   DemandThree   the plan; a batch run call by call, in any order that keeps the plan
---   Besides       what else document 01 says of the calls: deep verdicts, plans, the two readings, the walker, what stays, the
---                 program's two numbers, P1 to P15
+--   Besides       what else the documents say of the calls: deep verdicts, plans, the two readings, the walker, patterns as text,
+--                 what stays, the program's two numbers, P1 to P15
 --
 -- A call is named by its promise: Read, Delete, Insert, NodeVerdict, DeepVerdict, Plan and so on, each over what is lent to it before and after.
 -- Told says that an exported function returns the numbers of an answer that meets such a promise. Demands/Names.antt says where each name of this page
@@ -12,13 +12,13 @@
 mod Names
 use Names.*
 
--- one of the thirteen refusals
+-- one of the numbered refusals: 1 to 13 of document 01, 14 and 15 of document 02
 pub record Numbered (r : Refusal) : Type 0 where
   pub least : 1 ≤ r .number
-  pub most : r .number ≤ 13
+  pub most : r .number ≤ 15
 
 -- the numbers a are by an order of checks: no refusal where that is fine; else its refusal, with number, table and place, which is one of the
--- thirteen, and what was lent is kept
+-- numbered ones, and what was lent is kept
 pub record ByOrder (order : Checked) (a : Answer) (Kept : Type 0) : Type 0 where
   pub works : order ≡ Fine → a .refusal ≡ 0
   pub refused : (why : Refusal) → order ≡ Refused why → (a ≡ refusing why) × Numbered why × Kept
@@ -26,6 +26,11 @@ pub record ByOrder (order : Checked) (a : Answer) (Kept : Type 0) : Type 0 where
 -- nothing that could change was lent
 abbrev pub Nothing : Type 0
 Nothing = Unit {0}
+
+-- a text that is not right, and the length of its longest start that some right text has
+pub record WrongText (s : List ℕ) (n : ℕ) : Type 0 where
+  pub wrong : RightText s → ⊥
+  pub longest : Longest s n
 
 -- Demand 1: a call is refused exactly where its order of checks gives a refusal, by that one, and then changes no buffer that was lent; else it works
 pub record DemandOne : Type 0 where
@@ -47,7 +52,15 @@ pub record DemandOne : Type 0 where
       ByOrder (lineCheck s line then outputCheck (length s / 4) (length before)) a (after ≡ before)
   pub lines-out : (ws before after : List ℕ) (a : Answer) → Told ofSpelled (WrittenAs ws before after) a →
       ByOrder (outputCheck (4 * length ws) (length before)) a (after ≡ before)
-  -- printing is refused by 7 alone; else its bytes are fixed, and a refusal that they tell is one of the thirteen
+  pub patterns-in : (l s before after : List ℕ) (a : Answer) → Told ofParsed (ReadText l s before after) a → ByOrder (readTextCheck l s (length before)) a (after ≡ before)
+  pub patterns-out : (l p before after : List ℕ) (a : Answer) → Told ofPrinted (WriteText l p before after) a → ByOrder (writeTextCheck l p (length before)) a (after ≡ before)
+  -- a list is refused exactly if it is no list of names, by the first entry at which it breaks; a text exactly if it is no right text, by the length of
+  -- its longest start that some right text has
+  pub lists : (l : List ℕ) → (listCheck l ≡ Fine) ↔ NameList l
+  pub lists-place : (l : List ℕ) (k : ℕ) → (listCheck l ≡ refuse 14 8 k) ↔ BreaksAt l k
+  pub texts : (s : List ℕ) → (textCheck s ≡ Fine) ↔ RightText s
+  pub texts-place : (s : List ℕ) (n : ℕ) → (textCheck s ≡ refuse 14 7 n) ↔ WrongText s n
+  -- printing is refused by 7 alone; else its bytes are fixed, and a refusal that they tell is one of the numbered ones
   pub prints : (s before after : List ℕ) (answer : Printed) (h : PrintedAs s before after answer) →
       ByOrder (outputCheck (length (h .text)) (length before)) (ofPrinted answer) (after ≡ before)
   pub prints-one : (s before one two : List ℕ) (x y : Printed) → PrintedAs s before one x → PrintedAs s before two y → (x ≡ y) × (one ≡ two)
@@ -120,7 +133,7 @@ pub record DemandThree : Type 0 where
   pub runs : (b : List (Frame (List ℕ) Update)) (o : List ℕ) (d : Doc) → ((p k : ℕ) → At o p k → k < length b) → Runs b o d
   pub calls : (b : List (Frame (List ℕ) Update)) (o : List ℕ) (d last : Doc) (calls : List Called) → Run b o d calls last → (i k : ℕ) → At o i k → Has calls i k
 
--- Besides: what else document 01 says of the calls
+-- Besides: what else the documents say of the calls
 pub record Besides : Type 0 where
   -- the deep verdict: yes exactly if there is a node conflict or, in some tree, an update point below a node that the read selects
   pub deep-yes : (r : List ℕ) (u : Update) → DeepVerdict r u deep.Yes → Deep r u
@@ -143,6 +156,14 @@ pub record Besides : Type 0 where
   pub walk-refused : (b : List ℕ) (why : Refusal) → batchCheck b ≡ Refused why → (k : ℕ) → why .place ≤ k → callGives b k ≡ walker.Refused why
   -- before every call the parts so far are the batch up to its place
   pub walk-parts : (b : List ℕ) (k : ℕ) → firstParts b k ≡ take (callPlace b k) b
+  -- patterns as text: a list has one list of names, and their numbers are their places in it; a right text has one list of steps, and means their pattern; what is written reads back as the same pattern, and what was read is
+  -- written back unchanged, with the same list; neither is refused where there is room
+  pub list-names : (l : List ℕ) (list : NameList l) → lines l ≡ list .names
+  pub text-steps : (s : List ℕ) (right : RightText s) → stepsOf s ≡ right .steps
+  pub written-reads : (l p before text : List ℕ) (n : ℕ) → WriteText l p before text (printed.Bytes n) →
+      (words after : List ℕ) (answer : Parsed) → ReadText l (take n text) words after answer → length p ≤ length words → (answer ≡ parsed.Words (length p)) × (take (length p) after ≡ p)
+  pub read-writes : (l s words pattern : List ℕ) (n : ℕ) → ReadText l s words pattern (parsed.Words n) →
+      (before after : List ℕ) (answer : Printed) → WriteText l (take n pattern) before after answer → length s ≤ length before → (answer ≡ printed.Bytes (length s)) × (take (length s) after ≡ s)
   -- with no conflict every output word stays, and behind any result all stays: behind a witness, a plan, marks, words and bytes
   pub clear-stays : (r : List ℕ) (u : Update) (before after : List ℕ) → NodeVerdict r u before after verdict.Clear → after ≡ before
   pub witness-behind : (r : List ℕ) (u : Update) (before after : List ℕ) (n : ℕ) → NodeVerdict r u before after (verdict.Conflict n) →
@@ -155,6 +176,8 @@ pub record Besides : Type 0 where
   pub words-behind : (s : List ℕ) (line : ℕ) (before after : List ℕ) (n : ℕ) → ReadAs s line before after (parsed.Words n) → drop n after ≡ drop n before
   pub digits-behind : (ws before after : List ℕ) (n : ℕ) → WrittenAs ws before after (spelled.Digits n) → drop n after ≡ drop n before
   pub bytes-behind : (s before after : List ℕ) (n : ℕ) → PrintedAs s before after (printed.Bytes n) → drop n after ≡ drop n before
+  pub pattern-behind : (l s before after : List ℕ) (n : ℕ) → ReadText l s before after (parsed.Words n) → drop n after ≡ drop n before
+  pub text-behind : (l p before after : List ℕ) (n : ℕ) → WriteText l p before after (printed.Bytes n) → drop n after ≡ drop n before
   -- the program's two numbers: so many bytes of output are always enough, and behind so many bytes of input nothing changes what is printed
   pub output-enough : (s before after : List ℕ) (why : Refusal) → PrintedAs s before after (printed.Refused why) → printedMost ≤ length before → ⊥
   pub input-enough : (s text : List ℕ) → Prints s text ↔ Prints (take inputMost s) text

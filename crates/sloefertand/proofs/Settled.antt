@@ -23,6 +23,10 @@ use Rattle.text_line_in.specs.Lines.{ReadAs}
 use Rattle.text_line_in.proofs.Promise.{read-one as line-one}
 use Rattle.text_line_out.specs.Spelling.{WrittenAs}
 use Rattle.text_line_out.proofs.Promise.{write-one}
+use Rattle.text_pattern_in.specs.Reading.{ReadText}
+use Rattle.text_pattern_in.proofs.Promise.{read-one as pattern-one}
+use Rattle.text_pattern_out.specs.Writing.{WriteText}
+use Rattle.text_pattern_out.proofs.Promise.{write-one as text-one}
 use Rattle.text_printer.specs.Printer.{PrintedAs}
 use Rattle.text_printer.proofs.Settled.{printed-one}
 use Rattle.c_answer.specs.Answers.{Told}
@@ -70,6 +74,12 @@ module _ {a b : Answer} (before one two : List ℕ) where
 
   pub spelled-told : (ws : List ℕ) → Told ofSpelled (WrittenAs ws before one) a → Told ofSpelled (WrittenAs ws before two) b → (a ≡ b) × (one ≡ two)
   spelled-told ws = told-one (λ _. one ≡ two) (write-one ws before one two)
+
+  pub pattern-told : (l s : List ℕ) → Told ofParsed (ReadText l s before one) a → Told ofParsed (ReadText l s before two) b → (a ≡ b) × (one ≡ two)
+  pattern-told l s = told-one (λ _. one ≡ two) (pattern-one l s before one two)
+
+  pub text-told : (l p : List ℕ) → Told ofPrinted (WriteText l p before one) a → Told ofPrinted (WriteText l p before two) b → (a ≡ b) × (one ≡ two)
+  text-told l p = told-one (λ _. one ≡ two) (text-one l p before one two)
 
   pub printed-told : (s : List ℕ) → Told ofPrinted (PrintedAs s before one) a → Told ofPrinted (PrintedAs s before two) b → (a ≡ b) × (one ≡ two)
   printed-told s = told-one (λ _. one ≡ two) (printed-one s before one two)

@@ -2,5 +2,6 @@
 pub mod batches;
 pub mod checking;
 pub mod operations;
+pub mod patterns;
 pub mod texts;
 pub mod verdicts;

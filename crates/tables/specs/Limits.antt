@@ -1,4 +1,4 @@
--- The limits of document 01, each named once.
+-- The limits of documents 01 and 02, each named once.
 use Prim.Native.Nat.{ℕ, _+_, _*_}
 
 -- steps of a pattern
@@ -38,3 +38,7 @@ batchLimit = 16384
 -- digits of a line
 abbrev pub digitLimit : ℕ
 digitLimit = 2572
+
+-- names of a list
+abbrev pub nameLimit : ℕ
+nameLimit = 256

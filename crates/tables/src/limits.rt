@@ -1,4 +1,4 @@
-// The limits of document 01, each named once.
+// The limits of documents 01 and 02, each named once.
 
 // Steps of a pattern.
 pub const STEP_LIMIT: usize = 64;
@@ -21,6 +21,9 @@ pub const BATCH_LIMIT: usize = 16384;
 
 // Digits of a line.
 pub const DIGIT_LIMIT: usize = 2572;
+
+// Names of a list.
+pub const NAME_LIMIT: usize = 256;
 
 // Numbers that a word can hold.
 pub const WORD_LIMIT: usize = 65536;

@@ -1,7 +1,8 @@
 ghost use mathlib.Core.Path.{_≡_};
 ghost use Rattle.tables.specs.Checks.{refuse};
 
-// A refusal: its number, the table at fault (1 read, 2 update, 3 inserted tree, 4 output or room, 5 document, 6 batch), and a place.
+// A refusal: its number, the table at fault (1 read, 2 update, 3 inserted tree, 4 output or room, 5 document, 6 batch, 7 text, 8 list of
+// names), and a place.
 pub struct Refusal {
     pub number: usize,
     pub table: usize,

@@ -10,8 +10,8 @@ use sloefertand::batches::sloefertand_plan;
 // Words of the longest batch, with one doubled.
 const ROOM: usize = 32;
 
-// An answer as one number: the frames, or from 10,000 on the refusal's number, table and place.
-fn code(a: Answer) -> usize {
+// An answer as one number: its first value, or from 10,000 on the refusal's number, table and place.
+pub(crate) fn code(a: Answer) -> usize {
     if a.refusal == 0 {
         return a.first;
     }
@@ -27,7 +27,7 @@ fn answer(b: &[u16], frames: usize) -> usize {
     code(sloefertand_plan(b, &mut out[0..frames]))
 }
 
-fn show_answer(a: usize) {
+pub(crate) fn show_answer(a: usize) {
     if a < 10000 {
         text(b"ok ");
         number(a);
@@ -127,7 +127,7 @@ fn doubled(b: &[u16], w: usize) -> [u16; ROOM] {
 }
 
 // One place back behind w.
-fn earlier_than(i: usize, w: usize) -> usize {
+pub(crate) fn earlier_than(i: usize, w: usize) -> usize {
     if i <= w {
         return i;
     }

@@ -1,11 +1,18 @@
-// Everything small over the proved library, by the functions that other languages link: the four tables that the second program prints too. `stdout` holds what that program printed.
+// Everything small over the proved library, by the functions that other languages link: the five tables that the second program prints too. `stdout` holds what that program printed.
 mod damage;
 mod digest;
 mod numbering;
+mod paired;
 mod pairs;
 mod plans;
+mod rows;
 mod show;
+mod single_bytes;
 mod small_documents;
+mod tally;
+mod text_lists;
+mod text_patterns;
+mod texts;
 mod two_damages;
 
 fn main() {
@@ -13,4 +20,5 @@ fn main() {
     small_documents::table();
     damage::table();
     plans::table();
+    texts::table();
 }

@@ -13,6 +13,8 @@ use sloefertand::operations::sloefertand_delete;
 use sloefertand::operations::sloefertand_insert;
 use sloefertand::operations::sloefertand_plain_reading;
 use sloefertand::operations::sloefertand_read;
+use sloefertand::patterns::sloefertand_read_pattern;
+use sloefertand::patterns::sloefertand_write_pattern;
 use sloefertand::texts::sloefertand_print;
 use sloefertand::texts::sloefertand_read_line;
 use sloefertand::texts::sloefertand_write_line;
@@ -117,6 +119,17 @@ pub(crate) fn spell(name: &[u8], x: &[u16], t: &mut [u16], m: &[u8], u: usize, y
     }
     if same(name, b"write line") {
         answer(sloefertand_write_line(x, y), 1);
+    }
+}
+
+// Patterns as text, there and back.
+pub(crate) fn pattern(name: &[u8], l: &[u8], r: &[u16], t: &mut [u16], m: &[u8], y: &mut [u8]) {
+    if same(name, b"read pattern") {
+        answer(sloefertand_read_pattern(l, m, t), 1);
+        return;
+    }
+    if same(name, b"write pattern") {
+        answer(sloefertand_write_pattern(l, r, y), 1);
     }
 }
 

@@ -1,4 +1,4 @@
-// A script, line by line. Tables r, p, x, t have words, tables m, y bytes; u and v are numbers.
+// A script, line by line. Tables r, p, x, t have words, tables l, m, y bytes; u and v are numbers.
 use crate::calls;
 use crate::numbers::bytes;
 use crate::numbers::number;
@@ -15,6 +15,7 @@ struct Sizes {
     p: usize,
     x: usize,
     t: usize,
+    l: usize,
     m: usize,
     y: usize,
     u: usize,
@@ -82,27 +83,44 @@ fn said(line: &[u8], letter: u8, n: usize) -> usize {
     n
 }
 
-// Bytes behind those in use; how many are in use then.
-fn append(m: &mut [u8], n: usize, s: &[u8]) -> usize {
+// A byte, or another in place of a space.
+fn spaced(byte: u8, space: u8) -> u8 {
+    if byte == b' ' {
+        return space;
+    }
+    byte
+}
+
+// Bytes behind those in use, another in place of each space; how many are in use then.
+fn append(m: &mut [u8], n: usize, s: &[u8], space: u8) -> usize {
     let mut end = n;
     let mut i = 0;
     while i < s.len() {
-        end = put_byte(m, end, s[i]);
+        end = put_byte(m, end, spaced(s[i], space));
         i += 1;
     }
     end
 }
 
-// Text behind the bytes in use: a line and its line feed, or a line without it.
+// Fills table m, or puts text behind its bytes in use: a line and its line feed, or a line without it.
 fn written(line: &[u8], m: &mut [u8], n: usize) -> usize {
     if begins(line, b'+') {
-        let end = append(m, n, rest(line));
+        let end = append(m, n, rest(line), b' ');
         return put_byte(m, end, b'\n');
     }
     if begins(line, b'-') {
-        return append(m, n, rest(line));
+        return append(m, n, rest(line), b' ');
     }
-    n
+    filled_bytes(line, b'm', m, n)
+}
+
+// Fills table l, or puts names behind its bytes in use, a line feed behind each.
+fn listed(line: &[u8], l: &mut [u8], n: usize) -> usize {
+    if begins(line, b'>') {
+        let end = append(l, n, rest(line), b'\n');
+        return put_byte(l, end, b'\n');
+    }
+    filled_bytes(line, b'l', l, n)
 }
 
 // Prints a heading as it stands, or shows a table that a call can change.
@@ -142,17 +160,20 @@ fn ask(
     calls::plan(name, x, t, u, v);
 }
 
-// A line, a printed plan or an update; the number u after it.
+// A line, a pattern's text, a printed plan or an update; the number u after it.
 fn tell(
     name: &[u8],
+    r: &[u16],
     p: &[u16],
     x: &[u16],
     t: &mut [u16],
+    l: &[u8],
     m: &mut [u8],
     y: &mut [u8],
     u: usize,
 ) -> usize {
     calls::spell(name, x, t, m, u, y);
+    calls::pattern(name, l, r, t, m, y);
     calls::print(name, m, y);
     calls::delete(name, p, t, m, u);
     calls::insert(name, p, x, t, m, u)
@@ -165,6 +186,7 @@ fn call(
     p: &[u16],
     x: &[u16],
     t: &mut [u16],
+    l: &[u8],
     m: &mut [u8],
     y: &mut [u8],
     u: usize,
@@ -173,7 +195,7 @@ fn call(
     show::text(b"  ");
     show::text(name);
     ask(name, r, p, x, t, m, y, u, v);
-    let used = tell(name, p, x, t, m, y, u);
+    let used = tell(name, r, p, x, t, l, m, y, u);
     show::text(b"\n");
     used
 }
@@ -185,6 +207,7 @@ fn called(
     p: &[u16],
     x: &[u16],
     t: &mut [u16],
+    l: &[u8],
     m: &mut [u8],
     y: &mut [u8],
     s: Sizes,
@@ -210,6 +233,7 @@ fn called(
         front(p, s.p),
         front(x, s.x),
         &mut t[0..words],
+        show::front(l, s.l),
         &mut m[0..marks],
         &mut y[0..bytes],
         s.u,
@@ -224,22 +248,40 @@ fn refilled(
     p: &mut [u16],
     x: &mut [u16],
     t: &mut [u16],
+    l: &mut [u8],
     m: &mut [u8],
     y: &mut [u8],
     s: Sizes,
     u: usize,
 ) -> Sizes {
-    let n = written(line, m, s.m);
     Sizes {
         r: filled(line, b'r', r, s.r),
         p: filled(line, b'p', p, s.p),
         x: filled(line, b'x', x, s.x),
         t: filled(line, b't', t, s.t),
-        m: filled_bytes(line, b'm', m, n),
+        l: listed(line, l, s.l),
+        m: written(line, m, s.m),
         y: filled_bytes(line, b'y', y, s.y),
         u: said(line, b'u', u),
         v: said(line, b'v', s.v),
     }
+}
+
+// Shows or fills a table, where a line asks for it.
+fn revealed(
+    line: &[u8],
+    r: &mut [u16],
+    p: &mut [u16],
+    x: &mut [u16],
+    t: &mut [u16],
+    l: &mut [u8],
+    m: &mut [u8],
+    y: &mut [u8],
+    s: Sizes,
+    u: usize,
+) -> Sizes {
+    reveal(line, t, m, y, s);
+    refilled(line, r, p, x, t, l, m, y, s, u)
 }
 
 // What a line asks for. No two of these begin with the same byte.
@@ -249,13 +291,13 @@ fn obeyed(
     p: &mut [u16],
     x: &mut [u16],
     t: &mut [u16],
+    l: &mut [u8],
     m: &mut [u8],
     y: &mut [u8],
     s: Sizes,
 ) -> Sizes {
-    let u = called(line, r, p, x, t, m, y, s);
-    reveal(line, t, m, y, s);
-    refilled(line, r, p, x, t, m, y, s, u)
+    let u = called(line, r, p, x, t, l, m, y, s);
+    revealed(line, r, p, x, t, l, m, y, s, u)
 }
 
 // The line that ends at this place, empty where none does.
@@ -289,6 +331,7 @@ fn each(
     p: &mut [u16],
     x: &mut [u16],
     t: &mut [u16],
+    l: &mut [u8],
     m: &mut [u8],
     y: &mut [u8],
 ) {
@@ -297,6 +340,7 @@ fn each(
         p: 0,
         x: 0,
         t: 0,
+        l: 0,
         m: 0,
         y: 0,
         u: 0,
@@ -307,7 +351,7 @@ fn each(
     while i < input.len() {
         let at = i;
         i += 1;
-        s = obeyed(line_at(input, from, at), r, p, x, t, m, y, s);
+        s = obeyed(line_at(input, from, at), r, p, x, t, l, m, y, s);
         from = start(input, from, at);
     }
 }
@@ -317,7 +361,17 @@ pub(crate) fn run(input: &[u8]) {
     let mut p = word_room();
     let mut x = word_room();
     let mut t = word_room();
+    let mut l = byte_room();
     let mut m = byte_room();
     let mut y = byte_room();
-    each(input, &mut r, &mut p, &mut x, &mut t, &mut m, &mut y);
+    each(
+        input,
+        &mut r,
+        &mut p,
+        &mut x,
+        &mut t,
+        &mut l,
+        &mut m,
+        &mut y,
+    );
 }

@@ -14,20 +14,21 @@ use Rattle.tables.specs.Checks.{refuse}
 use Rattle.tables.specs.declared.refusal.Checked.the-variants.{Fine}
 use Rattle.text_digits.specs.Digits.{wordsOf}
 use Rattle.text_digits.proofs.Returning.{length-lineOf}
+use Rattle.text_parts.specs.Next.{nextFrom, next}
+use Rattle.text_parts.proofs.Finding.{from-least, next-least, next-most}
 use Rattle.text_line_in.specs.Lines.{lineCheck}
 use Rattle.text_line_in.proofs.Promise.{line-short, accepted-returns}
 use Rattle.outcomes.specs.declared.texts.Printed.{Printed}
 use Rattle.batch_frame.specs.Frames.{kind}
-use Rattle.text_printer.specs.Printer.{feedFrom, lineEnd, lineAt, takeCheck, Outcome, Lines, none, bad, good, Prints, refusal, plan, PrintedAs}
+use Rattle.text_printer.specs.Printer.{lineEnd, lineAt, takeCheck, Outcome, Lines, none, bad, good, Prints, refusal, plan, PrintedAs}
 use Rattle.text_printer.specs.Enough.{inputMost}
-use Rattle.text_printer.proofs.Cutting.{feed-least, end-least, end-most}
 use Rattle.text_printer.proofs.Taking.{Only, line-only}
 use Rattle.text_printer.proofs.Going.{taken-line}
 use Rattle.text_printer.proofs.Accepting.{Sofar, sofar-none, sofar-more}
 
 -- a line is as long as from its place to its end
 line-long : (s : List ℕ) (at : ℕ) → at ≤ length s → length (lineAt s at) ≡ lineEnd s at - at
-line-long s at h = rw (length-take, length-drop) (omega (arith, end-most s at h))
+line-long s at h = rw (length-take, length-drop) (omega (arith, next-most 10 s at h))
 
 -- a line with more bytes than a line may have digits is refused by 13, whatever they are
 over-long : (l : List ℕ) (n : ℕ) (b : List ℕ) → digitLimit < length l → takeCheck l n b ≡ refuse 13 6 (n + 1)
@@ -51,26 +52,26 @@ module _ (most : ℕ) (s t : List ℕ) (same : take most s ≡ take most t) wher
   same-length = sym (length-take most s) ∙ ap length same ∙ length-take most t
 
   -- a line ends at the same place in both, or in neither within those bytes
-  same-feed : (at left more : ℕ) → min most (at + left) ≡ min most (at + more) → min most (feedFrom s at left) ≡ min most (feedFrom t at more)
-  unfolding feedFrom
-  same-feed at zero zero e = refl
-  same-feed at zero (suc more) e = omega (arith, feed-least t at (suc more))
-  same-feed at (suc left) zero e = omega (arith, feed-least s at (suc left))
-  same-feed at (suc left) (suc more) e = go (decLt at most) (same-feed (suc at) left more (omega (arith, e)))
+  same-next : (at left more : ℕ) → min most (at + left) ≡ min most (at + more) → min most (nextFrom 10 s at left) ≡ min most (nextFrom 10 t at more)
+  unfolding nextFrom
+  same-next at zero zero e = refl
+  same-next at zero (suc more) e = omega (arith, from-least 10 t at (suc more))
+  same-next at (suc left) zero e = omega (arith, from-least 10 s at (suc left))
+  same-next at (suc left) (suc more) e = go (decLt at most) (same-next (suc at) left more (omega (arith, e)))
     where
-      step : (c : Bool) → min most (feedFrom s (suc at) left) ≡ min most (feedFrom t (suc at) more)
-          → min most (cond c at (feedFrom s (suc at) left)) ≡ min most (cond c at (feedFrom t (suc at) more))
+      step : (c : Bool) → min most (nextFrom 10 s (suc at) left) ≡ min most (nextFrom 10 t (suc at) more)
+          → min most (cond c at (nextFrom 10 s (suc at) left)) ≡ min most (cond c at (nextFrom 10 t (suc at) more))
       step true later = refl
       step false later = later
 
-      go : Dec (at < most) → min most (feedFrom s (suc at) left) ≡ min most (feedFrom t (suc at) more)
-          → min most (feedFrom s at (suc left)) ≡ min most (feedFrom t at (suc more))
+      go : Dec (at < most) → min most (nextFrom 10 s (suc at) left) ≡ min most (nextFrom 10 t (suc at) more)
+          → min most (nextFrom 10 s at (suc left)) ≡ min most (nextFrom 10 t at (suc more))
       go (yes h) later = rw (same-byte at h) (step (eqb (getD t at 0) 10) later)
-      go (no h) later = omega (arith, feed-least s at (suc left), feed-least t at (suc more))
+      go (no h) later = omega (arith, from-least 10 s at (suc left), from-least 10 t at (suc more))
 
   same-end : (at : ℕ) → min most (lineEnd s at) ≡ min most (lineEnd t at)
-  unfolding lineEnd
-  same-end at = same-feed at (length s - at) (length t - at) (omega (arith, same-length))
+  unfolding next
+  same-end at = same-next at (length s - at) (length t - at) (omega (arith, same-length))
 
   module _ (at : ℕ) (here : at < length s) (before : at < most) where
     still-here : at < length t
@@ -111,7 +112,7 @@ module _ (most : ℕ) (s t : List ℕ) (same : take most s ≡ take most t) wher
         let digits = taken-long (lineAt s at) n b e in
         let line : lineAt s at ≡ lineAt t at = line-same at h (omega arith) (omega arith) in
         let end : lineEnd s at ≡ lineEnd t at = omega (arith, same-end at) in
-        let next : lineEnd s at + 1 ≤ 4 * length (b ++ wordsOf (lineAt s at)) + (n + 1) = rw length-append (omega (arith, end-least s at)) in
+        let next : lineEnd s at + 1 ≤ 4 * length (b ++ wordsOf (lineAt s at)) + (n + 1) = rw length-append (omega (arith, next-least 10 s at)) in
         let more = sofar-more (lineAt s at) (kind (b ++ wordsOf (lineAt s at)) (length b)) e so in
         good (still-here at h (omega arith)) (sym (check-same at h (omega arith) room n b) ∙ e) (rw (line, end) at (lines-same lines more next))
 

@@ -18,6 +18,7 @@ use Rattle.batch_frame.specs.Frames.{kind, endOf, frameCheck}
 use Rattle.batch_frame.proofs.Accepted.{frame-below}
 use Rattle.batch_frame.proofs.Ending.{end-behind}
 use Rattle.text_digits.specs.Digits.{wordsOf}
+use Rattle.text_parts.proofs.Finding.{next-least, next-most}
 use Rattle.text_line_in.specs.Lines.{lineCheck}
 use Rattle.text_printer.specs.Printer.{lineEnd, lineAt, takeCheck, Outcome, Lines, none, bad, good}
 use Rattle.text_printer.specs.Reading.{Roomy, TakenAs, RanAs}
@@ -25,7 +26,6 @@ use Rattle.text_printer.specs.declared.Taken.{Taken}
 use Rattle.text_printer.specs.declared.Taken.the-variants as took
 use Rattle.text_printer.specs.declared.Ran.the-variants as ran
 use Rattle.batch_whole.specs.Whole.{wholeCheck}
-use Rattle.text_printer.proofs.Cutting.{end-least, end-most}
 
 -- what a line that is taken says
 module _ (l : List ℕ) (n : ℕ) (b : List ℕ) (e : takeCheck l n b ≡ Fine) where
@@ -76,10 +76,10 @@ module _ {s batch₀ kinds₀ batch kinds : List ℕ} {at n used : ℕ} (going :
     line-is = rw is refl
 
     pub go-least : at ≤ end
-    go-least = rw is (end-least s at)
+    go-least = rw is (next-least 10 s at)
 
     pub go-most : end ≤ length s
-    go-most = rw is (end-most s at (omega (arith, h)))
+    go-most = rw is (next-most 10 s at (omega (arith, h)))
 
     module _ (after : List ℕ) (got : Taken) (e : TakenAs (part s at (end - at)) n used batch after got) where
       pub go-stop : {r : Refusal} → got ≡ took.Refused r → RanAs s after kinds (ran.Stopped (n + 1) r)

@@ -1,5 +1,4 @@
 -- Laws of the plan printer.
-pub mod Cutting
 pub mod Taking
 pub mod Going
 pub mod Longer

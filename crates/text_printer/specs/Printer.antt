@@ -1,7 +1,6 @@
 -- The plan printer: lines in, a line a frame out, or the first refusal.
-use Prim.Native.Nat.{ℕ, zero, suc, _+_, _-_, _≤_, _<_}
+use Prim.Native.Nat.{ℕ, _+_, _-_, _≤_, _<_}
 use mathlib.Core.Path.{_≡_}
-use mathlib.Core.Bool.{cond}
 use mathlib.Core.List.{List, [], _∷_, _++_}
 use lib.Dec.{eqb, leb}
 use lib.ListN.{length, getD}
@@ -17,18 +16,14 @@ use Rattle.batch_frame.specs.Frames.{kind, endOf, frameCheck}
 use Rattle.batch_check.specs.Batches.{batchOf}
 use Rattle.batch_plan.specs.Batch.{WordIs}
 use Rattle.text_digits.specs.Digits.{wordsOf}
+use Rattle.text_parts.specs.Next.{next}
 use Rattle.text_line_in.specs.Lines.{lineCheck}
 use Rattle.text_plan_lines.specs.Printing.{threeOf, planText, Answered}
 use Rattle.outcomes.specs.declared.texts.Printed.{Printed}
 
--- the first line feed at or behind a place, of so many bytes; behind them where there is none
-unfoldable pub feedFrom : List ℕ → ℕ → ℕ → ℕ
-feedFrom s at zero = at
-feedFrom s at (suc left) = cond (eqb (getD s at 0) 10) at (feedFrom s (suc at) left)
-
 -- where the line ends that begins at a place: at the next line feed, or at the end of the input
-unfoldable pub lineEnd : List ℕ → ℕ → ℕ
-lineEnd s at = feedFrom s at (length s - at)
+abbrev pub lineEnd : List ℕ → ℕ → ℕ
+lineEnd s at = next 10 s at
 
 -- that line
 abbrev pub lineAt : List ℕ → ℕ → List ℕ

@@ -8,8 +8,8 @@ use tables::limits::DIGIT_LIMIT;
 use tables::limits::FRAME_LIMIT;
 use tables::refusal::Checked;
 use tables::refusal::Refusal;
-use tables::words::byte;
 use text_line_in::read_line;
+use text_parts::next_byte;
 use text_plan_lines::print_frames;
 use text_plan_lines::print_refusal;
 ghost use Prim.Native.Nat.{_+_, _/_, _≤_};
@@ -18,7 +18,7 @@ ghost use lib.ListN.{length};
 ghost use Rattle.tables.specs.Limits.{batchLimit, digitLimit, frameLimit};
 ghost use Rattle.tables.specs.declared.refusal.Checked.the-variants.{Fine};
 ghost use Rattle.batch_check.specs.Batches.{planCheck};
-ghost use Rattle.text_printer.specs.Printer.{lineEnd, PrintedAs};
+ghost use Rattle.text_printer.specs.Printer.{PrintedAs};
 ghost use Rattle.text_printer.specs.Reading.{Roomy, TakenAs, RanAs, PlanPrinted};
 
 // What taking a line answers: how many words are in use behind it.
@@ -31,21 +31,6 @@ enum Taken {
 enum Ran {
     Stopped(usize, Refusal),
     All(usize, usize),
-}
-
-// Where the line ends that begins at a place.
-fn line_end(s: &[u8], at: usize) -> usize
-    ensures { λ r. ⌜ r ≡ lineEnd (now (s .entry)) at ⌝ }
-{
-    let n = s.len();
-    let mut k = at;
-    while k < n {
-        if byte(s, k) == 10 {
-            return k;
-        }
-        k += 1;
-    }
-    k
 }
 
 // A line behind n lines, its words behind those in use.
@@ -78,7 +63,7 @@ fn read_lines(s: &[u8], batch: &mut [u16], kinds: &mut [u16]) -> Ran
     let mut n = 0;
     let mut used = 0;
     while at < s.len() {
-        let end = line_end(s, at);
+        let end = next_byte(s, at, 10);
         match take_line(&s[at..end], n, used, batch) {
             Taken::Refused(why) => return Ran::Stopped(n + 1, why),
             Taken::Words(words) => {

@@ -15,7 +15,7 @@ pub use Rattle.tables.specs.Documents.{Doc, doc, bare, mark, present, Sound}
 pub use Rattle.tables.specs.declared.refusal.Refusal.{Refusal}
 pub use Rattle.tables.specs.declared.refusal.Checked.{Checked}
 pub use Rattle.tables.specs.declared.refusal.Checked.the-variants.{Fine, Refused}
-pub use Rattle.tables.specs.Checks.{_then_, outputCheck, patternCheck, treeCheck, documentCheck}
+pub use Rattle.tables.specs.Checks.{_then_, refuse, outputCheck, patternCheck, treeCheck, documentCheck}
 -- the numbers that go out to C: what each exported function returns
 pub use Rattle.c_answer.specs.declared.answer.Answer.{Answer}
 pub use Rattle.c_answer.specs.Answers.{refusing, Told}
@@ -56,11 +56,19 @@ pub use Rattle.outcomes.specs.declared.plans.Planned.the-variants as planned
 -- orders of a batch, and a batch run call by call: when two runs give the same
 pub use Rattle.order.specs.Order.{Stands, Before, own}
 pub use Rattle.order_calls.specs.Calls.{Reply, Called, called, Run, Has, Runs, NoRoom, Works, SameRuns}
--- texts: ReadAs is promised by read_line, WrittenAs by write_line, PrintedAs by print
+-- lines: ReadAs is promised by read_line, WrittenAs by write_line
 pub use Rattle.text_line_in.specs.Lines.{lineCheck, ReadAs}
 pub use Rattle.outcomes.specs.declared.texts.Parsed.the-variants as parsed
 pub use Rattle.text_line_out.specs.Spelling.{WrittenAs}
 pub use Rattle.outcomes.specs.declared.texts.Spelled.the-variants as spelled
+-- patterns as text: ReadText is promised by read_pattern, WriteText by write_pattern
+pub use Rattle.text_names.specs.Names.{NameList, BreaksAt, lines, listCheck}
+pub use Rattle.text_pattern.specs.Texts.{RightText, Longest}
+pub use Rattle.text_pattern.specs.Meaning.{stepsOf, textCheck}
+pub use Rattle.text_pattern_in.specs.Reading.{readTextCheck, ReadText}
+pub use Rattle.text_pattern_out.specs.Writing.{writeTextCheck, WriteText}
+pub use Rattle.outcomes.specs.declared.texts.Parsed.{Parsed}
+-- the printer: PrintedAs is promised by print
 pub use Rattle.text_printer.specs.Printer.{Lines, stopped, Prints, PrintedAs}
 pub use Rattle.text_printer.specs.Enough.{printedMost, inputMost}
 pub use Rattle.outcomes.specs.declared.texts.Printed.{Printed}

@@ -1,0 +1,257 @@
+-- Patterns as text: lists and texts are refused as the definitions say; what is written reads back, and what was read is written back.
+use Prim.Native.Nat.{ℕ, zero, suc, _+_, _-_, _*_, _/_, _%_, _≤_, _<_}
+use mathlib.Core.Path.{_≡_, refl, sym, _∙_, ap}
+use mathlib.Core.Bool.{Bool, true, false, _||_, or-true}
+use mathlib.Core.List.{List, [], _∷_}
+use mathlib.Core.Logic.{_↔_, _⊎_, inl, inr}
+use native.Mathlib.Omega.{arith}
+use native.Mathlib.Nat.{zero-add}
+use lib.Dec.{eqb, leb}
+use lib.ListN.{length, getD, take, drop}
+use lib.Seq.{take-at}
+use borrow.Author.Tests.{leb-true, le-leb, lt-ltb, eq-eqb, ne-eqb}
+use Rattle.selection.proofs.Runs.{both}
+use Rattle.tables.specs.Limits.{stepLimit}
+use Rattle.tables.specs.Words.{steps, axis, label}
+use Rattle.tables.specs.Patterns.{Pattern}
+use Rattle.tables.specs.Checks.{_then_, test, refuse, each, sizeCheck, axisRight, axisCheck, patternCheck, outputCheck}
+use Rattle.tables.specs.declared.refusal.Checked.{Checked}
+use Rattle.tables.specs.declared.refusal.Checked.the-variants.{Fine, Refused}
+use Rattle.tables.proofs.Accepted.{never, held, then-first, then-second, each-fine, each-all}
+use Rattle.tables.proofs.Soundness.{size-even, accepted-pattern, accepted-steps}
+use Rattle.text_names.specs.Names.{Names, NameList, BreaksAt, lines, same, numberOf, listCheck}
+use Rattle.text_names.proofs.Same.{same-refl}
+use Rattle.text_names.proofs.Numbers.{number-listed}
+use Rattle.text_names.proofs.Written.{lines-written}
+use Rattle.text_names.proofs.Lists.{list-names, list-breaks, breaks-list}
+use Rattle.text_pattern.specs.Texts.{Step, star, RightText, Longest}
+use Rattle.text_pattern.specs.Scan.{rightText, longest}
+use Rattle.text_pattern.specs.Meaning.{stepsOf, textCheck, listed, wordsOf, wordOf, stepsFrom, textOf}
+use Rattle.text_pattern.proofs.Scanning.{scan-right, right-scan, longest-start, longest-one}
+use Rattle.text_pattern.proofs.Steps.{steps-spelled}
+use Rattle.text_pattern.proofs.Returning as returning
+use Rattle.text_pattern.proofs.Returning.{allListed, length-words, steps-words, labels-listed, pattern-returns, pattern-accepted}
+use Rattle.text_pattern_in.specs.Reading.{listedCheck, readTextCheck, ReadText}
+use Rattle.text_pattern_out.specs.Writing.{numberCheck, writeTextCheck, WriteText}
+use Rattle.outcomes.specs.declared.texts.Parsed.{Parsed}
+use Rattle.outcomes.specs.declared.texts.Parsed.the-variants as parsed
+use Rattle.outcomes.specs.declared.texts.Printed.{Printed}
+use Rattle.outcomes.specs.declared.texts.Printed.the-variants as printed
+use Rattle.demands.specs.Demands.{WrongText}
+
+-- where a list breaks
+pub lists-place : (l : List ℕ) (k : ℕ) → (listCheck l ≡ refuse 14 8 k) ↔ BreaksAt l k
+lists-place l k = ((λ e. list-breaks l (record { number = 14; table = 8; place = k }) e .1), breaks-list l k)
+
+-- a list has one list of names
+pub list-lines : (l : List ℕ) (list : NameList l) → lines l ≡ list .names
+list-lines l list = ap lines (list .written) ∙ lines-written (list .names) (list .right)
+
+-- a text that is right, and one that is not
+pub texts : (s : List ℕ) → (textCheck s ≡ Fine) ↔ RightText s
+unfolding textCheck
+texts s = ((λ e. scan-right s (held (rightText s) _ e)), (λ r. rw (right-scan s r)))
+
+-- the place of a refusal
+placeOf : Checked → ℕ
+placeOf Fine = 0
+placeOf (Refused r) = r .place
+
+pub texts-place : (s : List ℕ) (n : ℕ) → (textCheck s ≡ refuse 14 7 n) ↔ WrongText s n
+unfolding textCheck placeOf
+texts-place s n = (
+  λ e. record {
+    wrong = λ r. never e (rw (right-scan s r));
+    longest = placed (rightText s) e;
+  },
+  λ w. wrong (rightText s) refl w,
+)
+  where
+    placed : (b : Bool) → test b (refuse 14 7 (longest s)) ≡ refuse 14 7 n → Longest s n
+    placed true e = never e refl
+    placed false e =
+        let same : longest s ≡ n = ap placeOf e in
+        rw same at (longest-start s)
+
+    wrong : (b : Bool) → rightText s ≡ b → WrongText s n → test b (refuse 14 7 (longest s)) ≡ refuse 14 7 n
+    wrong true e w = absurd (w .wrong (scan-right s e))
+    wrong false e w = rw (longest-one s (longest s) n (longest-start s) (w .longest))
+
+-- a right text has one list of steps
+pub text-steps : (s : List ℕ) (right : RightText s) → stepsOf s ≡ right .steps
+text-steps s right = ap stepsOf (right .spelled) ∙ steps-spelled (right .steps) (right .right)
+
+-- 15 is given where a step's word is not listed
+all-listed : (ws : List (List ℕ)) (k : ℕ) (xs : List Step) → listedCheck ws k xs ≡ Fine → allListed ws xs ≡ true
+unfolding listedCheck allListed
+all-listed ws k [] e = refl
+all-listed ws k (x ∷ xs) e =
+    let first = test (listed ws (x .word)) (refuse 15 1 k) in
+    rw (held (listed ws (x .word)) _ (then-first first (listedCheck ws (suc k) xs) e)) (all-listed ws (suc k) xs (then-second first (listedCheck ws (suc k) xs) e))
+
+listed-all : (ws : List (List ℕ)) (k : ℕ) (xs : List Step) → allListed ws xs ≡ true → listedCheck ws k xs ≡ Fine
+unfolding listedCheck allListed
+listed-all ws k [] e = refl
+listed-all ws k (x ∷ xs) e = both (listed ws (x .word)) (allListed ws xs) e (λ h r. rw (h, listed-all ws (suc k) xs r))
+
+-- what a label is written as is listed
+word-listed : (ws : List (List ℕ)) → Names ws → (l : ℕ) → l ≤ length ws → listed ws (wordOf ws l) ≡ true
+unfolding listed wordOf
+word-listed ws names zero h = rw (same-refl star)
+word-listed ws names (suc l) h =
+    let back : suc l - 1 ≡ l = omega arith in
+    let some : numberOf ws (getD ws l []) ≡ suc l = number-listed ws names l h in
+    let other : eqb (suc l) 0 ≡ false = ne-eqb (suc l) 0 (λ z. omega (arith, z)) in
+    rw (other, back, some, lt-ltb 0 (suc l) (omega arith)) (or-true (same (getD ws l []) star))
+
+steps-listed : (ws : List (List ℕ)) → Names ws → (p : List ℕ) (i n : ℕ) → ((j : ℕ) → j < n → label p (i + j) ≤ length ws) → allListed ws (stepsFrom ws p i n) ≡ true
+unfolding allListed stepsFrom
+steps-listed ws names p i zero all = refl
+steps-listed ws names p i (suc n) all =
+    let here : i + 0 ≡ i = omega arith in
+    let first : label p i ≤ length ws = rw here at (all 0 (omega arith)) in
+    rw (word-listed ws names (label p i) first)
+    (steps-listed ws names p (suc i) n
+    (λ j h.
+    let on : i + suc j ≡ suc i + j = omega arith in
+    rw on at (all (suc j) (omega (arith, h)))))
+
+-- a pattern of whole pairs, within the limit, is accepted
+axis-fine : (p : List ℕ) (table : ℕ) → Pattern p → (i : ℕ) → i < steps p → axisCheck p table i ≡ Fine
+unfolding axisCheck axisRight
+axis-fine p table pat zero h = rw (eq-eqb (axis p 0) 0 (pat .first))
+axis-fine p table pat (suc i) h = rw (ne-eqb (suc i) 0 (λ z. omega (arith, z))) (go (pat .later i h))
+  where
+    go : (axis p (suc i) ≡ 1) ⊎ (axis p (suc i) ≡ 2) → test (eqb (axis p (suc i)) 1 || eqb (axis p (suc i)) 2) (refuse 3 table (suc i)) ≡ Fine
+    go (inl e) = rw e
+    go (inr e) = rw e
+
+pattern-fine : (p : List ℕ) (limit table : ℕ) → Pattern p → 2 * steps p ≡ length p → steps p ≤ limit → patternCheck p limit table ≡ Fine
+unfolding patternCheck sizeCheck
+pattern-fine p limit table pat whole few =
+    let even : length p % 2 ≡ 0 = omega (arith, whole) in
+    rw (lt-ltb 0 (length p) (omega (arith, whole, pat .some)), eq-eqb (length p % 2) 0 even, le-leb (length p / 2) limit few)
+    (each-all (axisCheck p table) 0 (steps p) (λ i h. axis-fine p table pat (0 + i) (rw zero-add h)))
+
+length-from : (ws : List (List ℕ)) (p : List ℕ) (i n : ℕ) → length (stepsFrom ws p i n) ≡ n
+unfolding stepsFrom
+length-from ws p i zero = refl
+length-from ws p i (suc n) = ap suc (length-from ws p (suc i) n)
+
+-- what is accepted to be written
+module _ (l p : List ℕ) (room : ℕ) (e : writeTextCheck l p room ≡ Fine) where
+  write-list : listCheck l ≡ Fine
+  unfolding writeTextCheck
+  write-list = then-first (listCheck l) _ e
+
+  write-rest : (patternCheck p stepLimit 1 then each (numberCheck (lines l) p) 0 (steps p) then outputCheck (length (textOf (lines l) p)) room) ≡ Fine
+  unfolding writeTextCheck
+  write-rest = then-second (listCheck l) _ e
+
+  write-pattern : patternCheck p stepLimit 1 ≡ Fine
+  write-pattern = then-first (patternCheck p stepLimit 1) _ write-rest
+
+  write-labels : (i : ℕ) → i < steps p → label p i ≤ length (lines l)
+  unfolding numberCheck
+  write-labels i h =
+      let numbers = then-first (each (numberCheck (lines l) p) 0 (steps p)) _ (then-second (patternCheck p stepLimit 1) _ write-rest) in
+      leb-true (label p i) (length (lines l)) (held (leb (label p i) (length (lines l))) _ (rw zero-add at (each-fine (numberCheck (lines l) p) 0 (steps p) numbers i h)))
+
+  write-whole : 2 * steps p ≡ length p
+  unfolding patternCheck
+  write-whole = omega (arith, size-even (length p) stepLimit 1 (then-first (sizeCheck (length p) stepLimit 1) _ write-pattern))
+
+  names : Names (lines l)
+  names = list-names l write-list
+
+  pattern : Pattern p
+  pattern = accepted-pattern p stepLimit 1 write-pattern
+
+  text-is-right : rightText (textOf (lines l) p) ≡ true
+  unfolding textOf
+  text-is-right =
+      right-scan (textOf (lines l) p)
+      (record { steps = stepsFrom (lines l) p 0 (steps p); right = returning.text-right (lines l) p names pattern write-labels; spelled = refl })
+
+  -- its text is not refused where there is room, and means this pattern
+  reads-fine : (words : ℕ) → length p ≤ words → readTextCheck l (textOf (lines l) p) words ≡ Fine
+  unfolding readTextCheck textCheck outputCheck
+  reads-fine words h =
+      rw (
+        write-list,
+        text-is-right,
+        returning.text-steps (lines l) p names pattern write-labels,
+        length-from (lines l) p 0 (steps p),
+        le-leb (steps p) stepLimit (accepted-steps p stepLimit 1 write-pattern),
+        listed-all (lines l) 0 (stepsFrom (lines l) p 0 (steps p)) (steps-listed (lines l) names p 0 (steps p) (λ j k. rw zero-add (write-labels j k))),
+        le-leb (2 * steps p) words (omega (arith, write-whole, h)),
+      )
+
+  text-long : 2 * length (stepsOf (textOf (lines l) p)) ≡ length p
+  text-long = rw (returning.text-steps (lines l) p names pattern write-labels, length-from (lines l) p 0 (steps p)) write-whole
+
+  reads-back : (words after : List ℕ) → length p ≤ length words → (answer : Parsed) → ReadText l (textOf (lines l) p) words after answer
+      → (answer ≡ parsed.Words (length p)) × (take (length p) after ≡ p)
+  reads-back words after h (parsed.Refused why) r = never (r .0) (reads-fine (length words) h)
+  reads-back words after h (parsed.Words m) r =
+      let same : wordsOf (lines l) (stepsOf (textOf (lines l) p)) ≡ p = returning.text-returns (lines l) p names pattern write-labels write-whole in
+      (ap parsed.Words (r .1 ∙ text-long), rw (r .2, same) (take-at p (drop m words) (length p) refl))
+
+pub written-reads : (l p before text : List ℕ) (n : ℕ) → WriteText l p before text (printed.Bytes n) →
+    (words after : List ℕ) (answer : Parsed) → ReadText l (take n text) words after answer → length p ≤ length words → (answer ≡ parsed.Words (length p)) × (take (length p) after ≡ p)
+written-reads l p before text n h words after answer r room =
+    let written : take n text ≡ textOf (lines l) p = rw (h .2) (take-at (textOf (lines l) p) (drop n before) n (sym (h .1))) in
+    reads-back l p (length before) (h .0) words after room answer (rw written at r)
+
+-- what was read
+module _ (l s : List ℕ) (room : ℕ) (e : readTextCheck l s room ≡ Fine) where
+  read-list : listCheck l ≡ Fine
+  unfolding readTextCheck
+  read-list = then-first (listCheck l) _ e
+
+  read-rest : (textCheck s then test (leb (length (stepsOf s)) stepLimit) (refuse 2 1 0) then listedCheck (lines l) 0 (stepsOf s) then outputCheck (2 * length (stepsOf s)) room) ≡ Fine
+  unfolding readTextCheck
+  read-rest = then-second (listCheck l) _ e
+
+  read-right : rightText s ≡ true
+  unfolding textCheck
+  read-right = held (rightText s) _ (then-first (textCheck s) _ read-rest)
+
+  read-few : length (stepsOf s) ≤ stepLimit
+  read-few =
+      leb-true (length (stepsOf s)) stepLimit
+      (held (leb (length (stepsOf s)) stepLimit) _ (then-first (test (leb (length (stepsOf s)) stepLimit) (refuse 2 1 0)) _ (then-second (textCheck s) _ read-rest)))
+
+  read-listed : allListed (lines l) (stepsOf s) ≡ true
+  read-listed =
+      all-listed (lines l) 0 (stepsOf s)
+      (then-first (listedCheck (lines l) 0 (stepsOf s)) _
+      (then-second (test (leb (length (stepsOf s)) stepLimit) (refuse 2 1 0)) _ (then-second (textCheck s) _ read-rest)))
+
+  same-text : textOf (lines l) (wordsOf (lines l) (stepsOf s)) ≡ s
+  same-text = pattern-returns (lines l) s read-right read-listed
+
+  -- its pattern is not refused where there is room, and its text is this one
+  writes-fine : (bytes : ℕ) → length s ≤ bytes → writeTextCheck l (wordsOf (lines l) (stepsOf s)) bytes ≡ Fine
+  unfolding writeTextCheck outputCheck numberCheck
+  writes-fine bytes h =
+      let p = wordsOf (lines l) (stepsOf s) in
+      let few : steps p ≤ stepLimit = rw (steps-words (lines l) (stepsOf s)) read-few in
+      let whole : 2 * steps p ≡ length p = rw (steps-words (lines l) (stepsOf s), length-words (lines l) (stepsOf s)) in
+      let numbers : each (numberCheck (lines l) p) 0 (steps p) ≡ Fine =
+      each-all (numberCheck (lines l) p) 0 (steps p)
+      (λ i k. rw (zero-add i, le-leb (label p i) (length (lines l)) (labels-listed (lines l) (stepsOf s) i (rw (steps-words (lines l) (stepsOf s)) at k)))) in
+      rw (read-list, pattern-fine p stepLimit 1 (pattern-accepted (lines l) s read-right) whole few, numbers, same-text, le-leb (length s) bytes h)
+
+  writes-back : (before after : List ℕ) → length s ≤ length before → (answer : Printed) → WriteText l (wordsOf (lines l) (stepsOf s)) before after answer
+      → (answer ≡ printed.Bytes (length s)) × (take (length s) after ≡ s)
+  writes-back before after h (printed.Refused why) r = never (r .0) (writes-fine (length before) h)
+  writes-back before after h (printed.Bytes m) r =
+      (ap printed.Bytes (r .1 ∙ ap length same-text), rw (r .2, same-text) (take-at s (drop m before) (length s) refl))
+
+pub read-writes : (l s words pattern : List ℕ) (n : ℕ) → ReadText l s words pattern (parsed.Words n) →
+    (before after : List ℕ) (answer : Printed) → WriteText l (take n pattern) before after answer → length s ≤ length before → (answer ≡ printed.Bytes (length s)) × (take (length s) after ≡ s)
+read-writes l s words pattern n h before after answer r room =
+    let read : take n pattern ≡ wordsOf (lines l) (stepsOf s) =
+    rw (h .2) (take-at (wordsOf (lines l) (stepsOf s)) (drop n words) n (length-words (lines l) (stepsOf s) ∙ sym (h .1))) in
+    writes-back l s (length words) (h .0) before after room answer (rw read at r)

@@ -1,0 +1,3 @@
+-- Laws of parts of a text.
+pub mod Finding
+pub mod Cutting

@@ -1,0 +1,2 @@
+-- What a reader must believe of parts of a text.
+pub mod Next
