@@ -86,8 +86,8 @@ static const struct measured {
     {"plan", planning, 27000},
     {"write_line", write_line, 2000},
     {"read_line", read_line, 2000},
-    {"write_pattern", write_pattern, 10000},
-    {"read_pattern", read_pattern, 10000},
+    {"write_pattern", write_pattern, 6000},
+    {"read_pattern", read_pattern, 6000},
     {"print", printing, 62000},
 };
 

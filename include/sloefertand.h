@@ -5,8 +5,9 @@
  *
  * STACK
  * What a call keeps for itself is on the stack. On x86-64 print takes at most 62,000 bytes of it; plan 27,000; insert_verdict and
- * deep_insert_verdict 26,000; delete_verdict, deep_delete_verdict, read_pattern and write_pattern 10,000; insert and delete 5,000;
- * each other call 2,000. These are measured, by boundary/stack.c on the longest patterns, trees, batches and lists, and not proved.
+ * deep_insert_verdict 26,000; delete_verdict and deep_delete_verdict 10,000; read_pattern and write_pattern 6,000; insert and
+ * delete 5,000; each other call 2,000. These are measured, by boundary/stack.c on the longest patterns, trees, batches and lists,
+ * and not proved.
  *
  * BUFFERS
  * A buffer is a pointer and, behind it, its length in elements (uint16_t words or bytes, not sizeof). The caller answers for

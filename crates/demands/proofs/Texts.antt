@@ -1,37 +1,36 @@
 -- Patterns as text: lists and texts are refused as the definitions say; what is written reads back, and what was read is written back.
-use Prim.Native.Nat.{ℕ, zero, suc, _+_, _-_, _*_, _/_, _%_, _≤_, _<_}
+use Prim.Native.Nat.{ℕ, _-_, _*_, _≤_, _<_}
 use mathlib.Core.Path.{_≡_, refl, sym, _∙_, ap}
-use mathlib.Core.Bool.{Bool, true, false, _||_, or-true}
-use mathlib.Core.List.{List, [], _∷_}
-use mathlib.Core.Logic.{_↔_, _⊎_, inl, inr}
+use mathlib.Core.Bool.{Bool, true, false}
+use mathlib.Core.List.{List}
+use mathlib.Core.Logic.{_↔_}
 use native.Mathlib.Omega.{arith}
 use native.Mathlib.Nat.{zero-add}
-use lib.Dec.{eqb, leb}
-use lib.ListN.{length, getD, take, drop}
+use lib.Dec.{leb}
+use lib.ListN.{length, take, drop}
 use lib.Seq.{take-at}
-use borrow.Author.Tests.{leb-true, le-leb, lt-ltb, eq-eqb, ne-eqb}
-use Rattle.selection.proofs.Runs.{both}
+use borrow.Author.Tests.{leb-true, le-leb}
 use Rattle.tables.specs.Limits.{stepLimit}
-use Rattle.tables.specs.Words.{steps, axis, label}
+use Rattle.tables.specs.Words.{steps, label}
 use Rattle.tables.specs.Patterns.{Pattern}
-use Rattle.tables.specs.Checks.{_then_, test, refuse, each, sizeCheck, axisRight, axisCheck, patternCheck, outputCheck}
+use Rattle.tables.specs.Checks.{_then_, test, refuse, each, sizeCheck, patternCheck, outputCheck}
 use Rattle.tables.specs.declared.refusal.Checked.{Checked}
 use Rattle.tables.specs.declared.refusal.Checked.the-variants.{Fine, Refused}
-use Rattle.tables.proofs.Accepted.{never, held, then-first, then-second, each-fine, each-all}
-use Rattle.tables.proofs.Soundness.{size-even, accepted-pattern, accepted-steps}
-use Rattle.text_names.specs.Names.{Names, NameList, BreaksAt, lines, same, numberOf, listCheck}
-use Rattle.text_names.proofs.Same.{same-refl}
-use Rattle.text_names.proofs.Numbers.{number-listed}
+use Rattle.tables.proofs.Accepted.{never, held, then-first, then-second, each-all}
+use Rattle.tables.proofs.Soundness.{size-even, accepted-pattern, accepted-steps, pattern-fine}
+use Rattle.text_names.specs.Names.{Names, NameList, BreaksAt, lines, same, listCheck}
 use Rattle.text_names.proofs.Written.{lines-written}
 use Rattle.text_names.proofs.Lists.{list-names, list-breaks, breaks-list}
-use Rattle.text_pattern.specs.Texts.{Step, star, RightText, Longest}
+use Rattle.text_pattern.specs.Texts.{RightText, Longest}
 use Rattle.text_pattern.specs.Scan.{rightText, longest}
-use Rattle.text_pattern.specs.Meaning.{stepsOf, textCheck, listed, wordsOf, wordOf, stepsFrom, textOf}
+use Rattle.text_pattern.specs.Meaning.{stepsOf, textCheck, wordsOf, stepsFrom, textOf}
 use Rattle.text_pattern.proofs.Scanning.{scan-right, right-scan, longest-start, longest-one}
 use Rattle.text_pattern.proofs.Steps.{steps-spelled}
 use Rattle.text_pattern.proofs.Returning as returning
-use Rattle.text_pattern.proofs.Returning.{allListed, length-words, steps-words, labels-listed, pattern-returns, pattern-accepted}
+use Rattle.text_pattern.proofs.Returning.{allListed, length-words, steps-words, labels-listed, pattern-returns, pattern-accepted, length-from, steps-listed}
 use Rattle.text_pattern_in.specs.Reading.{listedCheck, readTextCheck, ReadText}
+use Rattle.text_pattern_in.proofs.Taking.{all-listed, listed-all}
+use Rattle.text_pattern_out.proofs.Promise.{numbered}
 use Rattle.text_pattern_out.specs.Writing.{numberCheck, writeTextCheck, WriteText}
 use Rattle.outcomes.specs.declared.texts.Parsed.{Parsed}
 use Rattle.outcomes.specs.declared.texts.Parsed.the-variants as parsed
@@ -81,63 +80,6 @@ texts-place s n = (
 pub text-steps : (s : List ℕ) (right : RightText s) → stepsOf s ≡ right .steps
 text-steps s right = ap stepsOf (right .spelled) ∙ steps-spelled (right .steps) (right .right)
 
--- 15 is given where a step's word is not listed
-all-listed : (ws : List (List ℕ)) (k : ℕ) (xs : List Step) → listedCheck ws k xs ≡ Fine → allListed ws xs ≡ true
-unfolding listedCheck allListed
-all-listed ws k [] e = refl
-all-listed ws k (x ∷ xs) e =
-    let first = test (listed ws (x .word)) (refuse 15 1 k) in
-    rw (held (listed ws (x .word)) _ (then-first first (listedCheck ws (suc k) xs) e)) (all-listed ws (suc k) xs (then-second first (listedCheck ws (suc k) xs) e))
-
-listed-all : (ws : List (List ℕ)) (k : ℕ) (xs : List Step) → allListed ws xs ≡ true → listedCheck ws k xs ≡ Fine
-unfolding listedCheck allListed
-listed-all ws k [] e = refl
-listed-all ws k (x ∷ xs) e = both (listed ws (x .word)) (allListed ws xs) e (λ h r. rw (h, listed-all ws (suc k) xs r))
-
--- what a label is written as is listed
-word-listed : (ws : List (List ℕ)) → Names ws → (l : ℕ) → l ≤ length ws → listed ws (wordOf ws l) ≡ true
-unfolding listed wordOf
-word-listed ws names zero h = rw (same-refl star)
-word-listed ws names (suc l) h =
-    let back : suc l - 1 ≡ l = omega arith in
-    let some : numberOf ws (getD ws l []) ≡ suc l = number-listed ws names l h in
-    let other : eqb (suc l) 0 ≡ false = ne-eqb (suc l) 0 (λ z. omega (arith, z)) in
-    rw (other, back, some, lt-ltb 0 (suc l) (omega arith)) (or-true (same (getD ws l []) star))
-
-steps-listed : (ws : List (List ℕ)) → Names ws → (p : List ℕ) (i n : ℕ) → ((j : ℕ) → j < n → label p (i + j) ≤ length ws) → allListed ws (stepsFrom ws p i n) ≡ true
-unfolding allListed stepsFrom
-steps-listed ws names p i zero all = refl
-steps-listed ws names p i (suc n) all =
-    let here : i + 0 ≡ i = omega arith in
-    let first : label p i ≤ length ws = rw here at (all 0 (omega arith)) in
-    rw (word-listed ws names (label p i) first)
-    (steps-listed ws names p (suc i) n
-    (λ j h.
-    let on : i + suc j ≡ suc i + j = omega arith in
-    rw on at (all (suc j) (omega (arith, h)))))
-
--- a pattern of whole pairs, within the limit, is accepted
-axis-fine : (p : List ℕ) (table : ℕ) → Pattern p → (i : ℕ) → i < steps p → axisCheck p table i ≡ Fine
-unfolding axisCheck axisRight
-axis-fine p table pat zero h = rw (eq-eqb (axis p 0) 0 (pat .first))
-axis-fine p table pat (suc i) h = rw (ne-eqb (suc i) 0 (λ z. omega (arith, z))) (go (pat .later i h))
-  where
-    go : (axis p (suc i) ≡ 1) ⊎ (axis p (suc i) ≡ 2) → test (eqb (axis p (suc i)) 1 || eqb (axis p (suc i)) 2) (refuse 3 table (suc i)) ≡ Fine
-    go (inl e) = rw e
-    go (inr e) = rw e
-
-pattern-fine : (p : List ℕ) (limit table : ℕ) → Pattern p → 2 * steps p ≡ length p → steps p ≤ limit → patternCheck p limit table ≡ Fine
-unfolding patternCheck sizeCheck
-pattern-fine p limit table pat whole few =
-    let even : length p % 2 ≡ 0 = omega (arith, whole) in
-    rw (lt-ltb 0 (length p) (omega (arith, whole, pat .some)), eq-eqb (length p % 2) 0 even, le-leb (length p / 2) limit few)
-    (each-all (axisCheck p table) 0 (steps p) (λ i h. axis-fine p table pat (0 + i) (rw zero-add h)))
-
-length-from : (ws : List (List ℕ)) (p : List ℕ) (i n : ℕ) → length (stepsFrom ws p i n) ≡ n
-unfolding stepsFrom
-length-from ws p i zero = refl
-length-from ws p i (suc n) = ap suc (length-from ws p (suc i) n)
-
 -- what is accepted to be written
 module _ (l p : List ℕ) (room : ℕ) (e : writeTextCheck l p room ≡ Fine) where
   write-list : listCheck l ≡ Fine
@@ -152,10 +94,8 @@ module _ (l p : List ℕ) (room : ℕ) (e : writeTextCheck l p room ≡ Fine) wh
   write-pattern = then-first (patternCheck p stepLimit 1) _ write-rest
 
   write-labels : (i : ℕ) → i < steps p → label p i ≤ length (lines l)
-  unfolding numberCheck
-  write-labels i h =
-      let numbers = then-first (each (numberCheck (lines l) p) 0 (steps p)) _ (then-second (patternCheck p stepLimit 1) _ write-rest) in
-      leb-true (label p i) (length (lines l)) (held (leb (label p i) (length (lines l))) _ (rw zero-add at (each-fine (numberCheck (lines l) p) 0 (steps p) numbers i h)))
+  write-labels =
+      numbered (lines l) p (then-first (each (numberCheck (lines l) p) 0 (steps p)) _ (then-second (patternCheck p stepLimit 1) _ write-rest)) .all
 
   write-whole : 2 * steps p ≡ length p
   unfolding patternCheck

@@ -4,5 +4,6 @@ pub mod Outside
 pub mod Tests
 pub mod Branches
 pub mod Accepted
+pub mod First
 pub mod Soundness
 pub mod Elsewhere

@@ -9,7 +9,7 @@ use native.Mathlib.Nat.{zero-add}
 use native.Mathlib.Omega.{arith}
 use lib.Dec.{eqb, ltb, leb}
 use lib.ListN.{length}
-use borrow.Author.Tests.{eqb-true, ltb-true, leb-true, ne-eqb, lt-ltb, le-leb}
+use borrow.Author.Tests.{eqb-true, ltb-true, leb-true, eq-eqb, ne-eqb, lt-ltb, le-leb}
 use Rattle.tables.specs.declared.refusal.Checked.{Checked}
 use Rattle.tables.specs.declared.refusal.Checked.the-variants.{Fine}
 use Rattle.tables.specs.Limits.{usedLimit}
@@ -81,6 +81,23 @@ module _ (p : List ℕ) (limit table : ℕ) (e : patternCheck p limit table ≡ 
 
   pub accepted-steps : steps p ≤ limit
   accepted-steps = size-within (length p) limit table pattern-size
+
+-- and the other way round: a pattern of whole pairs, within the limit, is accepted
+axis-fine : (p : List ℕ) (table : ℕ) → Pattern p → (i : ℕ) → i < steps p → axisCheck p table i ≡ Fine
+unfolding axisCheck axisRight
+axis-fine p table pat zero h = rw (eq-eqb (axis p 0) 0 (pat .first))
+axis-fine p table pat (suc i) h = rw (ne-eqb (suc i) 0 (λ z. omega (arith, z))) (go (pat .later i h))
+  where
+    go : (axis p (suc i) ≡ 1) ⊎ (axis p (suc i) ≡ 2) → test (eqb (axis p (suc i)) 1 || eqb (axis p (suc i)) 2) (refuse 3 table (suc i)) ≡ Fine
+    go (inl e) = rw e
+    go (inr e) = rw e
+
+pub pattern-fine : (p : List ℕ) (limit table : ℕ) → Pattern p → 2 * steps p ≡ length p → steps p ≤ limit → patternCheck p limit table ≡ Fine
+unfolding patternCheck sizeCheck
+pattern-fine p limit table pat whole few =
+    let even : length p % 2 ≡ 0 = omega (arith, whole) in
+    rw (lt-ltb 0 (length p) (omega (arith, whole, pat .some)), eq-eqb (length p % 2) 0 even, le-leb (length p / 2) limit few)
+    (each-all (axisCheck p table) 0 (steps p) (λ i h. axis-fine p table pat (0 + i) (rw zero-add h)))
 
 -- nodes that a walk found right
 module _ (t : List ℕ) (table n : ℕ) (e : each (nodeCheck t table) 0 n ≡ Fine) where

@@ -7,7 +7,6 @@ pub mod Numbering
 pub mod Fitting
 pub mod Listing
 pub mod Numbers
-pub mod Walks
 pub mod Written
 pub mod Entry
 pub mod Lists

@@ -13,7 +13,7 @@ use Rattle.tables.specs.declared.refusal.Refusal.{Refusal}
 use Rattle.tables.specs.declared.refusal.Checked.the-variants.{Fine, Refused}
 use Rattle.tables.proofs.Accepted.{each-fine, each-all}
 use Rattle.text_names.specs.Names.{feed, linesOf, Names, NameList, BreaksAt, lines, ended, entries, entryRight, entryCheck, listCheck}
-use Rattle.text_names.proofs.Walks.{each-first, first-each}
+use Rattle.tables.proofs.First.{each-first, first-each}
 use Rattle.text_names.proofs.Written.{lines-rest, ended-written, written-append, cut, loose-empty}
 use Rattle.text_names.proofs.Entry.{Right, names-right, right-names, right-front, front-right, of-entry, to-entry, entry-true, true-entry, false-entry, entry-false}
 

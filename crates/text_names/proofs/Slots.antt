@@ -3,18 +3,16 @@ use Prim.Native.Nat.{ℕ, _+_, _-_, _*_, _%_, _≤_, _<_}
 use mathlib.Core.Path.{_≡_, refl, sym, _∙_}
 use mathlib.Core.List.{List, [], _∷_, _++_}
 use native.Mathlib.Numerals.{add-one}
-use native.Mathlib.Nat.{eq-zero-or-pos}
 use native.Mathlib.Decide.{decLt}
 use native.Mathlib.Omega.{arith}
-use mathlib.Core.Logic.{_⊎_, inl, inr}
 use mathlib.Core.Bool.{Bool, true, false}
 use lib.Dec.{eqb}
 use borrow.Author.Tests.{eqb-true, eqb-false}
 use lib.ListN.{length, getD, set, take, drop, length-set, length-append, drop-of-length-le, List·getD-append}
 use lib.Seq.{drop-cons, getD-set-same, getD-set-other, getD-at}
-use Rattle.text_names.specs.Names.{lines, numberOf}
+use Rattle.text_names.specs.Names.{lines}
 use Rattle.text_names.specs.Entries.{piece, slots, slotOf, FreshAt}
-use Rattle.text_names.proofs.Numbers.{listed-number}
+use Rattle.text_names.proofs.Numbers.{number-none}
 
 module _ (s : List ℕ) (i h : ℕ) {whole : ℕ} (w : whole ≡ slotOf h (drop i s)) where
   pub slot-on : i < length s → {more : ℕ} → more ≡ (31 * h + getD s i 0) % slots → whole ≡ slotOf more (drop (i + 1) s)
@@ -35,17 +33,14 @@ none-marked marks e = record { long = e; marked = λ k h. absurd (omega (arith, 
 
 -- a name whose slot is not marked is none of them
 pub fresh-at : (l : List ℕ) (from to : ℕ) (marks : List ℕ) → Marked (lines (take from l)) marks → (at : ℕ) → at ≡ slotOf 0 (piece l from to) → FreshAt l from to (getD marks at 0)
-fresh-at l from to marks m at e = record { fresh = λ z. go z (eq-zero-or-pos (numberOf (lines (take from l)) (piece l from to))) }
-  where
-    go : getD marks at 0 ≡ 0 → (numberOf (lines (take from l)) (piece l from to) ≡ 0) ⊎ (0 < numberOf (lines (take from l)) (piece l from to))
-        → numberOf (lines (take from l)) (piece l from to) ≡ 0
-    go z (inl n) = n
-    go z (inr n) =
-        let ws = lines (take from l) in
-        let found = listed-number ws (piece l from to) n in
-        let there : getD marks (slotOf 0 (getD ws (numberOf ws (piece l from to) - 1) [])) 0 ≡ 1 = m .marked (numberOf ws (piece l from to) - 1) (omega (arith, found .0, n)) in
-        let one : getD marks at 0 ≡ 1 = rw e (rw (found .1) at there) in
-        absurd (omega (arith, z, one))
+fresh-at l from to marks m at e =
+    record {
+      fresh = λ z.
+          number-none (lines (take from l)) (piece l from to)
+          (λ j h same.
+          let one : getD marks at 0 ≡ 1 = rw (e, ← same) (m .marked j h) in
+          omega (arith, z, one));
+    }
 
 -- a mark that is set, or was
 set-marked : (marks : List ℕ) (at j : ℕ) → at < length marks → getD marks j 0 ≡ 1 → getD (set marks at 1) j 0 ≡ 1

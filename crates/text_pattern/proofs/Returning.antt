@@ -1,6 +1,6 @@
 -- A pattern that is written as text reads back the same, and a text that is read is written back unchanged.
 use Prim.Native.Nat.{ℕ, zero, suc, _+_, _-_, _*_, _<_, _≤_, zero-le, suc-le-suc}
-use mathlib.Core.Path.{_≡_, refl, sym}
+use mathlib.Core.Path.{_≡_, refl, sym, ap}
 use mathlib.Core.Bool.{Bool, true, false, _&&_, _||_, cond, false≢true, or-true}
 use mathlib.Core.List.{List, [], _∷_}
 use mathlib.Core.Logic.{_⊎_, inl, inr}
@@ -9,7 +9,7 @@ use native.Mathlib.Omega.{arith}
 use lib.Dec.{eqb, ltb}
 use lib.ListN.{length, getD, drop, drop-of-length-le}
 use lib.Seq.{drop-cons}
-use borrow.Author.Tests.{eqb-true, ne-eqb, ltb-true}
+use borrow.Author.Tests.{eqb-true, ne-eqb, lt-ltb, ltb-true}
 use Rattle.selection.proofs.Runs.{both, either}
 use Rattle.tables.specs.Words.{steps, axis, label}
 use Rattle.tables.specs.Patterns.{Pattern}
@@ -188,3 +188,31 @@ pattern-steps ws (x ∷ xs) e =
 
 pub pattern-accepted : (ws : List (List ℕ)) (s : List ℕ) → rightText s ≡ true → Pattern (wordsOf ws (stepsOf s))
 pattern-accepted ws s e = pattern-steps ws (stepsOf s) (steps-right s e)
+
+-- so many steps as asked for
+pub length-from : (ws : List (List ℕ)) (p : List ℕ) (i n : ℕ) → length (stepsFrom ws p i n) ≡ n
+unfolding stepsFrom
+length-from ws p i zero = refl
+length-from ws p i (suc n) = ap suc (length-from ws p (suc i) n)
+
+-- what a label is written as is listed
+word-listed : (ws : List (List ℕ)) → Names ws → (l : ℕ) → l ≤ length ws → listed ws (wordOf ws l) ≡ true
+unfolding listed wordOf
+word-listed ws names zero h = rw (same-refl star)
+word-listed ws names (suc l) h =
+    let back : suc l - 1 ≡ l = omega arith in
+    let some : numberOf ws (getD ws l []) ≡ suc l = number-listed ws names l h in
+    let other : eqb (suc l) 0 ≡ false = ne-eqb (suc l) 0 (λ z. omega (arith, z)) in
+    rw (other, back, some, lt-ltb 0 (suc l) (omega arith)) (or-true (same (getD ws l []) star))
+
+pub steps-listed : (ws : List (List ℕ)) → Names ws → (p : List ℕ) (i n : ℕ) → ((j : ℕ) → j < n → label p (i + j) ≤ length ws) → allListed ws (stepsFrom ws p i n) ≡ true
+unfolding allListed stepsFrom
+steps-listed ws names p i zero all = refl
+steps-listed ws names p i (suc n) all =
+    let here : i + 0 ≡ i = omega arith in
+    let first : label p i ≤ length ws = rw here at (all 0 (omega arith)) in
+    rw (word-listed ws names (label p i) first)
+    (steps-listed ws names p (suc i) n
+    (λ j h.
+    let on : i + suc j ≡ suc i + j = omega arith in
+    rw on at (all (suc j) (omega (arith, h)))))

@@ -1,8 +1,8 @@
 -- The branches of the code on one byte of a text, held against the definitions.
 use Prim.Native.Nat.{ℕ, _+_}
-use mathlib.Core.Path.{_≡_, sym, _∙_}
+use mathlib.Core.Path.{_≡_, refl, sym, _∙_}
 use mathlib.Core.List.{List, [], _∷_}
-use mathlib.Core.Bool.{Bool, true, false, and-true}
+use mathlib.Core.Bool.{Bool, true, false, cond, and-true}
 use native.Mathlib.Omega.{arith}
 use lib.Dec.{eqb}
 use lib.ListN.{length, getD}
@@ -40,71 +40,70 @@ module _ (c : ℕ) {b : ℕ} (is : b ≡ c) where
       unfolding kindOf
       kind-other f = rw (ne-eqb c slash (λ h. n (is ∙ h)), ne-eqb c 42 (λ h. m (is ∙ h)), ← p, e, ← q, f)
 
--- where a text stands behind a byte
-module _ (q k : ℕ) where
-  pub first-1 : q ≡ 0 → k ≡ 1 → 1 ≡ nextOf q k
+-- where a text stands behind a byte: that stood before a step, in a name, behind a slash
+module _ (k : ℕ) where
+  pub begun-star : k ≡ 2 → 2 ≡ nextOf 1 k
   unfolding nextOf
-  first-1 a b = rw (a, b)
+  begun-star e = rw e
 
-  pub first-lost : q ≡ 0 → (k ≡ 1 → ⊥) → 5 ≡ nextOf q k
+  pub begun-name : k ≡ 3 → 3 ≡ nextOf 1 k
   unfolding nextOf
-  first-lost a n1 = rw (a, ne-eqb k 1 n1)
+  begun-name e = rw e
 
-  pub before-2 : q ≡ 1 → k ≡ 2 → 2 ≡ nextOf q k
+  pub begun-lost : (k ≡ 2 → ⊥) → (k ≡ 3 → ⊥) → 5 ≡ nextOf 1 k
   unfolding nextOf
-  before-2 a b = rw (a, b)
+  begun-lost a b = rw (ne-eqb k 2 a, ne-eqb k 3 b)
 
-  pub before-3 : q ≡ 1 → (k ≡ 2 → ⊥) → k ≡ 3 → 3 ≡ nextOf q k
+  pub named-slash : k ≡ 1 → 4 ≡ nextOf 3 k
   unfolding nextOf
-  before-3 a n2 b = rw (a, b)
+  named-slash e = rw e
 
-  pub before-lost : q ≡ 1 → (k ≡ 2 → ⊥) → (k ≡ 3 → ⊥) → 5 ≡ nextOf q k
+  pub named-start : k ≡ 3 → 3 ≡ nextOf 3 k
   unfolding nextOf
-  before-lost a n2 n3 = rw (a, ne-eqb k 2 n2, ne-eqb k 3 n3)
+  named-start e = rw e
 
-  pub starred-1 : q ≡ 2 → k ≡ 1 → 4 ≡ nextOf q k
+  pub named-on : k ≡ 4 → 3 ≡ nextOf 3 k
   unfolding nextOf
-  starred-1 a b = rw (a, b)
+  named-on e = rw e
 
-  pub starred-lost : q ≡ 2 → (k ≡ 1 → ⊥) → 5 ≡ nextOf q k
+  pub named-lost : (k ≡ 1 → ⊥) → (k ≡ 3 → ⊥) → (k ≡ 4 → ⊥) → 5 ≡ nextOf 3 k
   unfolding nextOf
-  starred-lost a n1 = rw (a, ne-eqb k 1 n1)
+  named-lost a b c = rw (ne-eqb k 1 a, ne-eqb k 3 b, ne-eqb k 4 c)
 
-  pub named-1 : q ≡ 3 → k ≡ 1 → 4 ≡ nextOf q k
+  pub slashed-twice : k ≡ 1 → 1 ≡ nextOf 4 k
   unfolding nextOf
-  named-1 a b = rw (a, b)
+  slashed-twice e = rw e
 
-  pub named-3 : q ≡ 3 → (k ≡ 1 → ⊥) → k ≡ 3 → 3 ≡ nextOf q k
+  pub slashed-begun : (k ≡ 1 → ⊥) → {r : ℕ} → r ≡ nextOf 1 k → r ≡ nextOf 4 k
   unfolding nextOf
-  named-3 a n1 b = rw (a, b)
+  slashed-begun n e = rw (ne-eqb k 1 n) e
 
-  pub named-4 : q ≡ 3 → (k ≡ 1 → ⊥) → (k ≡ 3 → ⊥) → k ≡ 4 → 3 ≡ nextOf q k
-  unfolding nextOf
-  named-4 a n1 n3 b = rw (a, b)
+  -- at any place
+  module _ (q : ℕ) where
+    pub next-at : (n : ℕ) → q ≡ n → {r : ℕ} → r ≡ nextOf n k → r ≡ nextOf q k
+    next-at n a e = rw a e
 
-  pub named-lost : q ≡ 3 → (k ≡ 1 → ⊥) → (k ≡ 3 → ⊥) → (k ≡ 4 → ⊥) → 5 ≡ nextOf q k
-  unfolding nextOf
-  named-lost a n1 n3 n4 = rw (a, ne-eqb k 1 n1, ne-eqb k 3 n3, ne-eqb k 4 n4)
+    module _ (one : q ≡ 1 → ⊥) (three : q ≡ 3 → ⊥) (four : q ≡ 4 → ⊥) where
+      pub next-other : (k ≡ 1 → ⊥) → 5 ≡ nextOf q k
+      unfolding nextOf
+      next-other n = rw (ne-eqb k 1 n, ne-eqb q 1 one, ne-eqb q 3 three, ne-eqb q 4 four) (go (eqb q 0) (eqb q 2))
+        where
+          go : (a b : Bool) → _≡_ {A = ℕ} 5 (cond a 5 (cond b 5 5))
+          go true b = refl
+          go false true = refl
+          go false false = refl
 
-  pub slashed-1 : q ≡ 4 → k ≡ 1 → 1 ≡ nextOf q k
-  unfolding nextOf
-  slashed-1 a b = rw (a, b)
+      pub next-lost : (q ≡ 0 → ⊥) → (q ≡ 2 → ⊥) → 5 ≡ nextOf q k
+      unfolding nextOf
+      next-lost a b = rw (ne-eqb q 0 a, ne-eqb q 1 one, ne-eqb q 2 b, ne-eqb q 3 three, ne-eqb q 4 four)
 
-  pub slashed-2 : q ≡ 4 → (k ≡ 1 → ⊥) → k ≡ 2 → 2 ≡ nextOf q k
-  unfolding nextOf
-  slashed-2 a n1 b = rw (a, b)
+    pub next-first : k ≡ 1 → q ≡ 0 → 1 ≡ nextOf q k
+    unfolding nextOf
+    next-first a b = rw (a, b)
 
-  pub slashed-3 : q ≡ 4 → (k ≡ 1 → ⊥) → (k ≡ 2 → ⊥) → k ≡ 3 → 3 ≡ nextOf q k
-  unfolding nextOf
-  slashed-3 a n1 n2 b = rw (a, b)
-
-  pub slashed-lost : q ≡ 4 → (k ≡ 1 → ⊥) → (k ≡ 2 → ⊥) → (k ≡ 3 → ⊥) → 5 ≡ nextOf q k
-  unfolding nextOf
-  slashed-lost a n1 n2 n3 = rw (a, ne-eqb k 1 n1, ne-eqb k 2 n2, ne-eqb k 3 n3)
-
-  pub all-lost : (q ≡ 0 → ⊥) → (q ≡ 1 → ⊥) → (q ≡ 2 → ⊥) → (q ≡ 3 → ⊥) → (q ≡ 4 → ⊥) → 5 ≡ nextOf q k
-  unfolding nextOf
-  all-lost a b c d e = rw (ne-eqb q 0 a, ne-eqb q 1 b, ne-eqb q 2 c, ne-eqb q 3 d, ne-eqb q 4 e)
+    pub next-star : k ≡ 1 → q ≡ 2 → 4 ≡ nextOf q k
+    unfolding nextOf
+    next-star a b = rw (a, b)
 
 -- where a right text may end
 pub ends-star : (q : ℕ) → q ≡ 2 → eqb q 2 ≡ ends q

@@ -11,11 +11,13 @@ use Rattle.tables.specs.Limits.{wordLimit, nameLimit}
 use Rattle.tables.specs.Checks.{_then_, test, refuse}
 use Rattle.tables.specs.declared.refusal.Checked.{Checked}
 use Rattle.tables.specs.declared.refusal.Checked.the-variants.{Fine}
+use Rattle.selection.proofs.Runs.{both}
+use Rattle.tables.proofs.Accepted.{held, then-first, then-second}
 use Rattle.text_names.specs.Names.{lines}
 use Rattle.text_pattern.specs.Texts.{Step, step}
 use Rattle.text_pattern.specs.Scan.{rightText}
 use Rattle.text_pattern.specs.Meaning.{stepsOf, labelOf, listed, wordsOf}
-use Rattle.text_pattern.proofs.Returning.{label-within, length-words}
+use Rattle.text_pattern.proofs.Returning.{label-within, allListed, length-words}
 use Rattle.text_pattern_in.specs.Reading.{listedCheck}
 use Rattle.text_pattern_in.specs.Walk.{wordTo, wordAt, axisAt, foundOf, Taken}
 use Rattle.text_pattern_in.proofs.Left.{left, left-end, At, at-start, at-next, this-step, one-within, one-more, at-end}
@@ -114,3 +116,16 @@ module _ {l s before words : List ℕ} {i k : ℕ} (t : Took l s before words i 
       let all = at-end (t .at) h in
       let whole : take k (stepsOf s) ≡ stepsOf s = take-all k (stepsOf s) (omega (arith, all)) in
       (t .asked ∙ rw (left-end s i k h), t .written ∙ rw (whole, all))
+
+-- 15 is given where a step's word is not listed
+pub all-listed : (ws : List (List ℕ)) (k : ℕ) (xs : List Step) → listedCheck ws k xs ≡ Fine → allListed ws xs ≡ true
+unfolding listedCheck allListed
+all-listed ws k [] e = refl
+all-listed ws k (x ∷ xs) e =
+    let first = test (listed ws (x .word)) (refuse 15 1 k) in
+    rw (held (listed ws (x .word)) _ (then-first first (listedCheck ws (suc k) xs) e)) (all-listed ws (suc k) xs (then-second first (listedCheck ws (suc k) xs) e))
+
+pub listed-all : (ws : List (List ℕ)) (k : ℕ) (xs : List Step) → allListed ws xs ≡ true → listedCheck ws k xs ≡ Fine
+unfolding listedCheck allListed
+listed-all ws k [] e = refl
+listed-all ws k (x ∷ xs) e = both (listed ws (x .word)) (allListed ws xs) e (λ h r. rw (h, listed-all ws (suc k) xs r))

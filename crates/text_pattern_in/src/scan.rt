@@ -29,55 +29,67 @@ fn kind_at(s: &[u8], i: usize) -> usize
     0
 }
 
+// Where a text stands that stood before a step: behind a star, in a name, or where no right text begins so.
+fn begun(k: usize) -> usize
+    ensures { λ r. ⌜ r ≡ nextOf 1 k ⌝ }
+{
+    if k == 2 {
+        return 2;
+    }
+    if k == 3 {
+        return 3;
+    }
+    5
+}
+
+// Where a text stands that stood in a name.
+fn named(k: usize) -> usize
+    ensures { λ r. ⌜ r ≡ nextOf 3 k ⌝ }
+{
+    if k == 1 {
+        return 4;
+    }
+    if k == 3 {
+        return 3;
+    }
+    if k == 4 {
+        return 3; // a name goes on
+    }
+    5
+}
+
+// Where a text stands that stood behind a slash that a second may follow.
+fn slashed(k: usize) -> usize
+    ensures { λ r. ⌜ r ≡ nextOf 4 k ⌝ }
+{
+    if k == 1 {
+        return 1; // the second slash of two
+    }
+    begun(k)
+}
+
 // Where a text stands behind a byte of this kind: 0 before its first slash, 1 before a step, 2 behind a star, 3 in a name, 4 behind a slash that a
 // second may follow, 5 where no right text begins so.
 fn next(q: usize, k: usize) -> usize
     ensures { λ r. ⌜ r ≡ nextOf q k ⌝ }
 {
-    if q == 0 {
-        if k == 1 {
-            return 1; // the first slash
-        }
-        return 5;
-    }
     if q == 1 {
-        if k == 2 {
-            return 2;
-        }
-        if k == 3 {
-            return 3;
-        }
-        return 5;
-    }
-    if q == 2 {
-        if k == 1 {
-            return 4;
-        }
-        return 5;
+        return begun(k);
     }
     if q == 3 {
-        if k == 1 {
-            return 4;
-        }
-        if k == 3 {
-            return 3;
-        }
-        if k == 4 {
-            return 3; // a name goes on
-        }
-        return 5;
+        return named(k);
     }
     if q == 4 {
-        if k == 1 {
-            return 1; // the second slash of two
-        }
-        if k == 2 {
-            return 2;
-        }
-        if k == 3 {
-            return 3;
-        }
+        return slashed(k);
+    }
+    if k != 1 {
         return 5;
+    }
+    if q == 0 {
+        return 1; // the first slash
+    }
+    if q == 2 {
+        return 4;
     }
     5
 }
