@@ -143,7 +143,8 @@ sloefertand_answer sloefertand_insert_verdict(const uint16_t *read, size_t read_
                                               size_t witness_words);
 
 /* Also asks about what lies below the nodes that are read. first: 1 where the two conflict, or where in some document the update
- * takes place below a node that is read; else 0. Refusals: those of the verdict, without 7. */
+ * takes place at or below a node that is read, as an insert does that gives this very node a child; else 0.
+ * Refusals: those of the verdict, without 7. */
 sloefertand_answer sloefertand_deep_delete_verdict(const uint16_t *read, size_t read_words, const uint16_t *update,
                                                    size_t update_words);
 

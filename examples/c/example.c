@@ -15,6 +15,9 @@ static const uint16_t a_b_c[] = {0, 1, 1, 2, 1, 3}; /* a/b/c */
 static const uint16_t a_any_c[] = {0, 1, 2, 3};     /* a//c */
 static const uint16_t only_a[] = {0, 1};            /* a */
 
+/* A tree: parent and label of each node. */
+static const uint16_t leaf_c[] = {0, 3}; /* c */
+
 /* Whether a call was refused, which is said where it was. */
 static int refused(sloefertand_answer answer) {
     if (answer.refusal == 0) {
@@ -55,11 +58,8 @@ static void show_line(const char *line) {
     printf("\n");
 }
 
-/* Whether a read and a delete conflict, with the witness, a node a line. */
-static void show_verdict(const uint16_t *read, size_t read_words, const uint16_t *update, size_t update_words) {
-    uint16_t witness[SLOEFERTAND_WITNESS_WORDS];
-    sloefertand_answer verdict =
-        sloefertand_delete_verdict(read, read_words, update, update_words, witness, COUNT(witness));
+/* A verdict, with its witness, a node a line. */
+static void show_verdict(sloefertand_answer verdict, const uint16_t *witness) {
     if (refused(verdict)) {
         return;
     }
@@ -73,9 +73,22 @@ static void show_verdict(const uint16_t *read, size_t read_words, const uint16_t
     }
 }
 
-/* The deep verdict of a read and a delete. */
-static void show_deep(const uint16_t *read, size_t read_words, const uint16_t *update, size_t update_words) {
-    sloefertand_answer deep = sloefertand_deep_delete_verdict(read, read_words, update, update_words);
+/* Whether a read and a delete conflict. */
+static void show_delete_verdict(const uint16_t *read, size_t read_words, const uint16_t *update, size_t update_words) {
+    uint16_t witness[SLOEFERTAND_WITNESS_WORDS];
+    show_verdict(sloefertand_delete_verdict(read, read_words, update, update_words, witness, COUNT(witness)), witness);
+}
+
+/* Whether a read and an insert conflict. */
+static void show_insert_verdict(const uint16_t *read, size_t read_words, const uint16_t *update, size_t update_words,
+                                const uint16_t *tree, size_t tree_words) {
+    uint16_t witness[SLOEFERTAND_WITNESS_WORDS];
+    show_verdict(
+        sloefertand_insert_verdict(read, read_words, update, update_words, tree, tree_words, witness, COUNT(witness)), witness);
+}
+
+/* A deep verdict. */
+static void show_deep(sloefertand_answer deep) {
     if (!refused(deep)) {
         printf("deep verdict: %s\n", deep.first == 1 ? "yes" : "no");
     }
@@ -182,11 +195,15 @@ int main(void) {
     show_line("000300020000000100010002");
 
     printf("\nread a//c, delete a/b\n");
-    show_verdict(a_any_c, COUNT(a_any_c), a_b, COUNT(a_b));
+    show_delete_verdict(a_any_c, COUNT(a_any_c), a_b, COUNT(a_b));
 
     printf("\nread a/b, delete a/b/c\n");
-    show_verdict(a_b, COUNT(a_b), a_b_c, COUNT(a_b_c));
-    show_deep(a_b, COUNT(a_b), a_b_c, COUNT(a_b_c));
+    show_delete_verdict(a_b, COUNT(a_b), a_b_c, COUNT(a_b_c));
+    show_deep(sloefertand_deep_delete_verdict(a_b, COUNT(a_b), a_b_c, COUNT(a_b_c)));
+
+    printf("\nread a/b, insert c at a/b\n");
+    show_insert_verdict(a_b, COUNT(a_b), a_b, COUNT(a_b), leaf_c, COUNT(leaf_c));
+    show_deep(sloefertand_deep_insert_verdict(a_b, COUNT(a_b), a_b, COUNT(a_b), leaf_c, COUNT(leaf_c)));
 
     printf("\nread a//c of a document\n");
     show_read(a_any_c, COUNT(a_any_c));
@@ -201,6 +218,6 @@ int main(void) {
     show_pattern("/chart/buoy");
 
     printf("\nread a//c, delete a\n");
-    show_verdict(a_any_c, COUNT(a_any_c), only_a, COUNT(only_a));
+    show_delete_verdict(a_any_c, COUNT(a_any_c), only_a, COUNT(only_a));
     return 0;
 }

@@ -69,11 +69,29 @@ mod sloefertand {
                 witness: *mut u16,
                 witness_words: usize,
             ) -> Answer;
+            pub fn sloefertand_insert_verdict(
+                read: *const u16,
+                read_words: usize,
+                update: *const u16,
+                update_words: usize,
+                tree: *const u16,
+                tree_words: usize,
+                witness: *mut u16,
+                witness_words: usize,
+            ) -> Answer;
             pub fn sloefertand_deep_delete_verdict(
                 read: *const u16,
                 read_words: usize,
                 update: *const u16,
                 update_words: usize,
+            ) -> Answer;
+            pub fn sloefertand_deep_insert_verdict(
+                read: *const u16,
+                read_words: usize,
+                update: *const u16,
+                update_words: usize,
+                tree: *const u16,
+                tree_words: usize,
             ) -> Answer;
             pub fn sloefertand_step(
                 batch: *const u16,
@@ -159,7 +177,29 @@ mod sloefertand {
         answer.values().map(|values| values.first)
     }
 
-    /// Whether the read and the delete conflict, or the delete takes place below a node that is read.
+    /// The same of an insert of `tree`.
+    pub fn insert_verdict(
+        read: &[u16],
+        update: &[u16],
+        tree: &[u16],
+        witness: &mut [u16],
+    ) -> Result<usize, Refusal> {
+        let answer = unsafe {
+            exported::sloefertand_insert_verdict(
+                read.as_ptr(),
+                read.len(),
+                update.as_ptr(),
+                update.len(),
+                tree.as_ptr(),
+                tree.len(),
+                witness.as_mut_ptr(),
+                witness.len(),
+            )
+        };
+        answer.values().map(|values| values.first)
+    }
+
+    /// Whether the read and the delete conflict, or the delete can take place at or below a node that is read.
     pub fn deep_delete_verdict(read: &[u16], update: &[u16]) -> Result<bool, Refusal> {
         let answer = unsafe {
             exported::sloefertand_deep_delete_verdict(
@@ -167,6 +207,25 @@ mod sloefertand {
                 read.len(),
                 update.as_ptr(),
                 update.len(),
+            )
+        };
+        answer.values().map(|values| values.first == 1)
+    }
+
+    /// The same of an insert of `tree`.
+    pub fn deep_insert_verdict(
+        read: &[u16],
+        update: &[u16],
+        tree: &[u16],
+    ) -> Result<bool, Refusal> {
+        let answer = unsafe {
+            exported::sloefertand_deep_insert_verdict(
+                read.as_ptr(),
+                read.len(),
+                update.as_ptr(),
+                update.len(),
+                tree.as_ptr(),
+                tree.len(),
             )
         };
         answer.values().map(|values| values.first == 1)
@@ -238,6 +297,9 @@ const A_B_C: [u16; 6] = [0, 1, 1, 2, 1, 3]; // a/b/c
 const A_ANY_C: [u16; 4] = [0, 1, 2, 3]; // a//c
 const ONLY_A: [u16; 2] = [0, 1]; // a
 
+// A tree: parent and label of each node.
+const LEAF_C: [u16; 2] = [0, 3]; // c
+
 /// The plan of a batch, a line a frame: the walker gives the frames, the plan their words.
 fn show_plan(batch: &[u16]) -> Result<(), Refusal> {
     let kinds = ["", "read", "insert", "delete"];
@@ -268,26 +330,37 @@ fn show_line(line: &[u8]) -> Result<(), Refusal> {
     Ok(())
 }
 
-/// Whether a read and a delete conflict, with the witness, a node a line.
-fn show_verdict(read: &[u16], update: &[u16]) -> Result<(), Refusal> {
-    let mut witness = [0; sloefertand::WITNESS_WORDS];
-    let nodes = sloefertand::delete_verdict(read, update, &mut witness)?;
+/// A verdict, with its witness, a node a line.
+fn show_verdict(nodes: usize, witness: &[u16]) {
     if nodes == 0 {
         println!("no conflict");
-        return Ok(());
+        return;
     }
     println!("conflict, shown by {nodes} nodes");
     for (node, words) in witness[..2 * nodes].chunks(2).enumerate() {
         println!("node {node}: parent {}, label {}", words[0], words[1]);
     }
+}
+
+/// Whether a read and a delete conflict.
+fn show_delete_verdict(read: &[u16], update: &[u16]) -> Result<(), Refusal> {
+    let mut witness = [0; sloefertand::WITNESS_WORDS];
+    let nodes = sloefertand::delete_verdict(read, update, &mut witness)?;
+    show_verdict(nodes, &witness);
     Ok(())
 }
 
-/// The deep verdict of a read and a delete.
-fn show_deep(read: &[u16], update: &[u16]) -> Result<(), Refusal> {
-    let yes = sloefertand::deep_delete_verdict(read, update)?;
-    println!("deep verdict: {}", if yes { "yes" } else { "no" });
+/// Whether a read and an insert conflict.
+fn show_insert_verdict(read: &[u16], update: &[u16], tree: &[u16]) -> Result<(), Refusal> {
+    let mut witness = [0; sloefertand::WITNESS_WORDS];
+    let nodes = sloefertand::insert_verdict(read, update, tree, &mut witness)?;
+    show_verdict(nodes, &witness);
     Ok(())
+}
+
+/// A deep verdict.
+fn show_deep(yes: bool) {
+    println!("deep verdict: {}", if yes { "yes" } else { "no" });
 }
 
 /// The nodes of a document that a pattern selects.
@@ -380,11 +453,15 @@ fn show_all() -> Result<(), Refusal> {
     show_line(b"000300020000000100010002")?;
 
     println!("\nread a//c, delete a/b");
-    show_verdict(&A_ANY_C, &A_B)?;
+    show_delete_verdict(&A_ANY_C, &A_B)?;
 
     println!("\nread a/b, delete a/b/c");
-    show_verdict(&A_B, &A_B_C)?;
-    show_deep(&A_B, &A_B_C)?;
+    show_delete_verdict(&A_B, &A_B_C)?;
+    show_deep(sloefertand::deep_delete_verdict(&A_B, &A_B_C)?);
+
+    println!("\nread a/b, insert c at a/b");
+    show_insert_verdict(&A_B, &A_B, &LEAF_C)?;
+    show_deep(sloefertand::deep_insert_verdict(&A_B, &A_B, &LEAF_C)?);
 
     println!("\nread a//c of a document");
     show_read(&A_ANY_C)?;
@@ -399,7 +476,7 @@ fn show_all() -> Result<(), Refusal> {
     show_pattern("/chart/buoy");
 
     println!("\nread a//c, delete a");
-    show_verdict(&A_ANY_C, &ONLY_A)
+    show_delete_verdict(&A_ANY_C, &ONLY_A)
 }
 
 /// A refusal by its three numbers.

@@ -1,4 +1,5 @@
-//! The marked examples of document 01, and short ways to write them down.
+//! The marked examples of document 01, P15's deep verdict as document 02 has
+//! it, and short ways to write them down.
 
 use crate::pattern::{Axis, Pattern, Step, WILDCARD};
 use crate::tree::Row;
@@ -127,7 +128,17 @@ fn p14() {
 fn p15() {
     let verdict = insert("a/b", "c", "a/b");
     assert_eq!(verdict.witness, 0);
-    assert!(!verdict.deep);
+    assert!(verdict.deep);
+}
+
+/// An update point at the read node, below it, above it and beside it.
+#[test]
+fn deep_looks_at_the_read_node_and_below() {
+    let deep = |read, points| insert(read, "e", points).deep;
+    assert!(deep("a", "a") && deep("a", "*") && deep("a/*", "a/b"));
+    assert!(deep("a/b", "a/b/c") && deep("a", "a//b"));
+    assert!(!deep("a/b", "a") && !deep("a/b/c", "a/b"));
+    assert!(!deep("a", "b") && !deep("a/b", "a/c"));
 }
 
 /// The slots of document 01's listing: a delete, an insert, and three reads.

@@ -22,8 +22,8 @@ pub struct Pairs<'a> {
     /// For each update and read: the nodes of a smallest witness, 0 for none.
     witness: Vec<Vec<usize>>,
     /// For each pattern of an update and each read: true when some tree has an
-    /// update point strictly below a node that the read selects.
-    below: Vec<Vec<bool>>,
+    /// update point at or below a node that the read selects.
+    touched: Vec<Vec<bool>>,
     trees: usize,
     classes: usize,
 }
@@ -62,7 +62,7 @@ impl<'a> Pairs<'a> {
         Pairs {
             numbering,
             witness: vec![vec![0; reads]; numbering.updates().len()],
-            below: vec![vec![false; reads]; reads],
+            touched: vec![vec![false; reads]; reads],
             trees: 0,
             classes: 0,
         }
@@ -74,7 +74,7 @@ impl<'a> Pairs<'a> {
         let numbering = self.numbering;
         let patterns = numbering.patterns.iter();
         let before: Vec<NodeSet> = patterns.map(|p| selected(&tree, p)).collect();
-        self.note_below(&tree, &before);
+        self.note_touched(&tree, &before);
         for alike in points_of(&before) {
             self.try_deletes(&tree, &before, &alike);
             for inserted in 0..numbering.inserted.len() {
@@ -136,14 +136,14 @@ impl<'a> Pairs<'a> {
     }
 
     /// Notes each pair of an update's pattern and a read for which this tree
-    /// has an update point strictly below a node of the read.
-    fn note_below(&mut self, tree: &Tree, before: &[NodeSet]) {
+    /// has an update point at or below a node of the read.
+    fn note_touched(&mut self, tree: &Tree, before: &[NodeSet]) {
         let nodes = tree.nodes().len();
         for pattern in 0..before.len() {
             for read in 0..before.len() {
-                let open = !self.below[pattern][read] && nodes <= self.bound_of(pattern, read);
-                if open && point_below(tree, before[pattern], before[read]) {
-                    self.below[pattern][read] = true;
+                let open = !self.touched[pattern][read] && nodes <= self.bound_of(pattern, read);
+                if open && touches(tree, before[pattern], before[read]) {
+                    self.touched[pattern][read] = true;
                 }
             }
         }
@@ -162,7 +162,7 @@ impl<'a> Pairs<'a> {
 
     /// The deep verdict.
     pub fn deep(&self, update: Update, read: usize) -> bool {
-        self.witness(update, read) > 0 || self.below[update.pattern()][read]
+        self.witness(update, read) > 0 || self.touched[update.pattern()][read]
     }
 
     /// A pair's character: the witness number as a digit if the two verdicts
@@ -211,11 +211,11 @@ fn points_of(before: &[NodeSet]) -> Vec<Alike> {
     found
 }
 
-/// True when some update point has a node of the read strictly above it.
-pub fn point_below(tree: &Tree, points: NodeSet, read: NodeSet) -> bool {
+/// True when some update point is a node of the read or has one above it.
+pub fn touches(tree: &Tree, points: NodeSet, read: NodeSet) -> bool {
     points
         .rising()
-        .any(|point| tree.above(point).any(|node| read.has(node)))
+        .any(|point| tree.upward(point).any(|node| read.has(node)))
 }
 
 #[cfg(test)]
@@ -267,7 +267,7 @@ mod tests {
         let found = Pairs::tried(numbering);
         for other in [by_trees(numbering, is_chain), by_trees(numbering, |_| true)] {
             assert_eq!(found.witness, other.witness);
-            assert_eq!(found.below, other.below);
+            assert_eq!(found.touched, other.touched);
         }
     }
 

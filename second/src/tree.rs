@@ -71,8 +71,8 @@ impl Tree {
         &self.nodes
     }
 
-    /// The nodes strictly above a node, from its parent up to the root.
-    pub fn above(&self, number: usize) -> impl Iterator<Item = usize> + '_ {
-        std::iter::successors(self.node(number).parent, |&n| self.node(n).parent)
+    /// A node and those above it, from itself up to the root.
+    pub fn upward(&self, number: usize) -> impl Iterator<Item = usize> + '_ {
+        std::iter::successors(Some(number), |&n| self.node(n).parent)
     }
 }

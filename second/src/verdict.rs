@@ -3,7 +3,7 @@
 
 use crate::node_set::NodeSet;
 use crate::numbering::trees_of;
-use crate::pairs::{bound, point_below};
+use crate::pairs::{bound, touches};
 use crate::pattern::{Pattern, WILDCARD};
 use crate::placing::selected;
 use crate::tree::{Row, Tree};
@@ -63,7 +63,7 @@ pub fn with_trees(read: &Pattern, operation: Operation, names: &[u16], most: usi
         if verdict.witness == 0 && before != after {
             verdict.witness = tree.nodes().len();
         }
-        verdict.deep |= before != after || point_below(&tree, points, before);
+        verdict.deep |= before != after || touches(&tree, points, before);
     }
     verdict
 }

@@ -1,6 +1,6 @@
 -- The chain of a way is a sound tree: node v hangs under the node before it, and the node whose labels up to the root are a rest of the way
 -- has the number of the labels above it.
-use Prim.Native.Nat.{ℕ, zero, suc, pred, _+_, _*_, _<_}
+use Prim.Native.Nat.{ℕ, suc, pred, _+_, _*_, _<_}
 use native.Mathlib.Nat.{not-suc-le-zero}
 use native.Mathlib.Omega.{arith}
 use mathlib.Core.Path.{_≡_, refl, _∙_, ap}
@@ -9,7 +9,6 @@ use lib.ListN.{length, getD, length-append, List·getD-append}
 use lib.Seq.{append-snoc, getD-at, getD-append-add}
 use Rattle.tables.specs.Words.{nodes, parent, tag}
 use Rattle.tables.specs.Documents.{bare, Sound}
-use Rattle.selection.specs.Embeddings.{Child, Below, one, more}
 use Rattle.selection.specs.Ways.{up, sel, selected}
 use Rattle.selection.proofs.Up.{Up, top, node, Falls, up-of}
 use Rattle.selection.proofs.Selecting.{selected-present}
@@ -110,13 +109,3 @@ chain-last (l ∷ w) some = chain-way [] l w
 pub chain-selected-last : (p w : List ℕ) → 0 < length w → selected p (bare (chain w)) (pred (length w)) ≡ sel p w
 chain-selected-last p [] some = absurd (not-suc-le-zero some)
 chain-selected-last p (l ∷ w) some = chain-selected p [] l w
-
--- a node is below every node of a smaller number
-pub chain-below : (w : List ℕ) (u v : ℕ) → u < v → v < length w → Below (chain w) u v
-chain-below w u zero h b = absurd (not-suc-le-zero h)
-chain-below w u (suc v) h b = below-suc u v h
-    (λ less. more (chain-below w u v less (omega arith)) child)
-    (λ e. rw e (one child))
-  where
-    child : Child (chain w) v (suc v)
-    child = record { not-root = omega arith; under = chain-parent w (suc v) b }

@@ -11,9 +11,12 @@ use Rattle.tables.specs.Limits.{wordLimit}
 use Rattle.tables.specs.Words.{steps, label}
 use Rattle.tables.specs.Patterns.{Pattern}
 use Rattle.tables.specs.Documents.{Doc, bare, Sound}
+use Rattle.selection.specs.Embeddings.{Selects}
 use Rattle.selection.specs.Ways.{up, run, last, selected}
 use Rattle.selection.specs.Operations.{hits, deleted}
 use Rattle.selection.proofs.Runs.{hits-run}
+use Rattle.selection.proofs.Selecting.{selecting}
+use Rattle.selection.proofs.Hitting.{hit-here}
 use Rattle.selection.proofs.Deleting.{deleted-selects, deleted-sound}
 use Rattle.conflict.specs.Conflict.{delete, Differs, Witness, Conflict, Smallest}
 use Rattle.conflict.specs.Meeting.{fewestOf}
@@ -66,6 +69,20 @@ module _ (r p : List ℕ) (pattern : Pattern r) (two : 1 < steps p) where
       record { at = v; here = there; within = deleteWay-within r p (up (d .rows) v) cut }))
       (λ v gone here. absurd (false≢true (rw (deleted-selects r p d v, gone) at here)))
 
+  -- a tree of which the read selects a node that the delete hits is a witness: the node is lost
+  lost-hit : {t : List ℕ} → Sound (bare t) → (v : ℕ) → selected r (bare t) v ≡ true → hits p (up t v) ≡ true → Witness r (delete p) t
+  lost-hit {t} sound v here hit =
+      let gone : selected r (deleted p (bare t)) v ≡ false = rw (deleted-selects r p (bare t) v, here, hit) refl in
+      record {
+        sound = sound;
+        differs = differs-at pattern sound (deleted-sound p (bare t) two sound) v (λ e. false≢true (sym gone ∙ e ∙ here));
+      }
+
+  -- so is one of which both select a node
+  pub lost-selected : Pattern p → {t : List ℕ} → Sound (bare t) → (v : ℕ) → Selects r (bare t) v → Selects p (bare t) v → Witness r (delete p) t
+  lost-selected other {t} sound v reads updates =
+      lost-hit sound v (selecting pattern sound v .1 reads) (hit-here p (bare t) sound v (selecting other sound v .1 updates))
+
   module _ (names : (k : ℕ) → label r k < wordLimit) (others : (k : ℕ) → label p k < wordLimit) where
     -- the chain of the way loses its last node
     pub delete-witness : 0 < length (deleteWay r p) → Witness r (delete p) (chain (deleteWay r p))
@@ -76,11 +93,7 @@ module _ (r p : List ℕ) (pattern : Pattern r) (two : 1 < steps p) where
         let sound : Sound (bare t) = chain-sound (deleteWay r p) (deleteWay-labels r p names others) h in
         let here : selected r (bare t) v ≡ true = chain-selected-last r (deleteWay r p) h ∙ cut .reads in
         let hit : hits p (up t v) ≡ true = rw (chain-last (deleteWay r p) h, hits-run p (deleteWay r p)) (cut .updates) in
-        let gone : selected r (deleted p (bare t)) v ≡ false = rw (deleted-selects r p (bare t) v, here, hit) refl in
-        record {
-          sound = sound;
-          differs = differs-at pattern sound (deleted-sound p (bare t) two sound) v (λ e. false≢true (sym gone ∙ e ∙ here));
-        }
+        lost-hit sound v here hit
 
     -- so the way decides
     pub decides-delete : Decides r (delete p) (deleteWay r p)

@@ -5,7 +5,7 @@ use mathlib.Core.List.{List}
 use mathlib.Core.Logic.{_⊎_}
 use Rattle.tables.specs.Words.{nodes, parent, Bits16}
 use Rattle.tables.specs.Documents.{Doc, bare, Sound}
-use Rattle.selection.specs.Embeddings.{Below, Selects}
+use Rattle.selection.specs.Embeddings.{AtOrBelow, Selects}
 use Rattle.selection.specs.Operations.{deleted, inserted}
 
 -- an update: a delete with its pattern, or an insert with its pattern and the inserted tree
@@ -57,7 +57,7 @@ pub record SmallestWitness (r : List ℕ) (u : Update) (t : List ℕ) : Type 0 w
 pub record Chain (t : List ℕ) : Type 0 where
   pub before : (v : ℕ) → suc v < nodes t → parent t (suc v) ≡ v
 
--- some tree has an update point below a node that the read selects
+-- some tree has an update point at or below a node that the read selects
 pub record Touches (r : List ℕ) (u : Update) : Type 0 where
   pub tree : List ℕ
   pub sound : Sound (bare tree)
@@ -65,8 +65,8 @@ pub record Touches (r : List ℕ) (u : Update) : Type 0 where
   pub point : ℕ
   pub read : Selects r (bare tree) node
   pub update : Selects (pattern u) (bare tree) point
-  pub under : Below tree node point
+  pub under : AtOrBelow tree node point
 
--- what the deep verdict answers: a node conflict, or an update point below a node that the read selects
+-- what the deep verdict answers: a node conflict, or an update point at or below a node that the read selects
 abbrev pub Deep : List ℕ → Update → Type 0
 Deep r u = Conflict r u ⊎ Touches r u

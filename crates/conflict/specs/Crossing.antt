@@ -2,11 +2,11 @@
 use Prim.Native.Nat.{ℕ, zero, suc, pred}
 use mathlib.Core.Bool.{Bool, true, false, _&&_, _||_, cond}
 use mathlib.Core.List.{List, [], _∷_, _++_}
-use lib.Dec.{eqb}
+use lib.Dec.{eqb, ltb}
 use lib.ListN.{length}
 use Rattle.tables.specs.Words.{nodes}
 use Rattle.selection.specs.Ways.{up, takes, stays, last}
-use Rattle.conflict.specs.Meeting.{meetingOf, shorter}
+use Rattle.conflict.specs.Meeting.{meetingOf, fewestOf, shorter}
 
 -- a run in state k over the labels of y, nearest first, is in state i when they are at their end: the labels above are run in state i
 unfoldable pub over : (ℕ → ℕ → Bool) → (ℕ → Bool) → ℕ → List ℕ → ℕ → Bool
@@ -39,6 +39,10 @@ deleteWay r p = meetingOf r false p true (last r) (last p)
 
 unfoldable pub insertWay : List ℕ → List ℕ → List ℕ → List ℕ
 insertWay r p x = entering r p x (last r)
+
+-- some way is one that the update selects and the read hits: it has an update point of p at or below a node that r selects
+unfoldable pub touches : List ℕ → List ℕ → Bool
+touches r p = ltb 0 (fewestOf r true p false (last r) (last p))
 
 -- the words of a chain with these labels, nearest first: the root is the last of them
 unfoldable pub chain : List ℕ → List ℕ

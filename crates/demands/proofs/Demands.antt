@@ -2,29 +2,35 @@
 use Prim.Native.Nat.{ℕ, _*_, _<_}
 use mathlib.Core.Path.{_≡_, refl, sym, _∙_}
 use mathlib.Core.List.{List, _++_}
-use mathlib.Core.Logic.{_↔_}
+use mathlib.Core.Logic.{_↔_, inl, inr}
 use native.Mathlib.Omega.{arith}
 use lib.ListN.{length, take, drop}
 use lib.Seq.{drop-at}
 use Rattle.tables.specs.Limits.{treeLimit}
 use Rattle.tables.specs.Words.{Bits16}
-use Rattle.tables.specs.Documents.{Doc}
+use Rattle.tables.specs.Documents.{Doc, bare, Sound}
 use Rattle.tables.specs.declared.refusal.Checked.the-variants.{Fine}
 use Rattle.tables.proofs.Accepted.{never}
 use Rattle.tables.proofs.Soundness.{accepted-document, accepted-tree}
 use Rattle.doc_read.proofs.Laws.{read-selects}
+use Rattle.selection.specs.Embeddings.{Selects}
 use Rattle.selection.specs.Operations.{copies}
 use Rattle.selection.proofs.Selecting.{selecting}
 use Rattle.doc_updates.proofs.Accepted.{delete-document, delete-pattern, insert-document, insert-pattern, insert-tree}
 use Rattle.doc_updates.proofs.Deletes.{delete-fine, delete-doc, delete-count, delete-behind, delete-length}
 use Rattle.doc_updates.proofs.Inserts.{insert-fine, insert-number, insert-doc, insert-words-behind, insert-marks-behind, insert-rows-length, insert-marks-length}
-use Rattle.conflict.specs.Conflict.{Update, UpdateBits, delete, insert, Conflict, SmallestWitness, Chain}
+use Rattle.conflict.specs.Conflict.{Update, UpdateBits, delete, insert, pattern, Conflict, SmallestWitness, Chain}
+use Rattle.conflict.proofs.Deletes.{lost-selected}
 use Rattle.conflict.proofs.Chained.{decided-chain}
 use Rattle.check_verdict.specs.Order.{verdictCheck, deepCheck}
+use Rattle.check_verdict.proofs.Accepting.{patterns-read, patterns-update, delete-patterns, delete-two}
 use Rattle.verdict_ways.proofs.Deciding.{delete-deciding, insert-deciding}
 use Rattle.verdict.specs.Promise.{NodeVerdict, witnessNodes}
+use Rattle.verdict_deep.specs.Promise.{DeepVerdict}
 use Rattle.outcomes.specs.declared.verdicts.Verdict.{Verdict}
 use Rattle.outcomes.specs.declared.verdicts.Verdict.the-variants as verdict
+use Rattle.outcomes.specs.declared.verdicts.Deeply.{Deeply}
+use Rattle.outcomes.specs.declared.verdicts.Deeply.the-variants as deep
 use Rattle.marked.proofs.Marked.{marked}
 use Rattle.order.proofs.Own.{own-order}
 use Rattle.order.proofs.Deciding.{conflicting, conflicting-decides}
@@ -92,6 +98,14 @@ chained : (r : List ℕ) (u : Update) → Bits16 r → UpdateBits u → deepChec
 chained r (delete p) names others fine t = decided-chain (delete-deciding r p names others fine .decides)
 chained r (insert p x) names others fine t = decided-chain (insert-deciding r p x names (others .0) (others .1) fine .decides)
 
+-- an update point at a read node makes the deep verdict say yes
+deep-at : (r : List ℕ) (u : Update) (answer : Deeply) → DeepVerdict r u answer → deepCheck r u ≡ Fine →
+    (t : List ℕ) → Sound (bare t) → (v : ℕ) → Selects r (bare t) v → Selects (pattern u) (bare t) v → answer ≡ deep.Yes
+deep-at r u (deep.Refused why) h fine t sound v reads updates = never h fine
+deep-at r u deep.Yes h fine t sound v reads updates = refl
+deep-at r u deep.No h fine t sound v reads updates =
+    absurd (h .none (inr (record { tree = t; sound = sound; node = v; point = v; read = reads; update = updates; under = inl refl })))
+
 pub demand-two : DemandTwo
 demand-two =
     record {
@@ -149,6 +163,10 @@ besides =
     record {
       deep-yes = λ r u h. h .some;
       deep-no = λ r u h. h .none;
+      deep-at = deep-at;
+      deep-at-delete = λ r p fine t sound v.
+          let both = delete-patterns r p fine in
+          lost-selected r p (patterns-read r p both) (delete-two r p fine) (patterns-update r p both) sound v;
       numbers = λ b before plan n k u h at. h .2 .words at;
       same-slot = λ b c wb wc ab ac k l r at there same v w s t. same-slot b c wb wc ab ac at there same s t;
       readings = readings-agree;

@@ -18,10 +18,10 @@ use Rattle.selection.proofs.Up.{way-is}
 use Rattle.selection.proofs.Lists.{rising-rises}
 use Rattle.selection.proofs.Presence.{present-used}
 use Rattle.selection.proofs.Selecting.{selecting}
+use Rattle.selection.proofs.Hitting.{Hit, hit-hits, hits-hit}
 use Rattle.selection.proofs.Deleting.{deleted-rows, deleted-used, deleted-mark, deleted-behind}
 use Rattle.selection.proofs.Grafting.{copied-below}
 use Rattle.selection.proofs.Inserting.{copies-count, point-selected, selected-number, selected-point, inserted-used, inserted-word-behind, inserted-mark-behind, inserted-kept, inserted-copy}
-use Rattle.doc_updates.proofs.Deletes.{Hit, hit-hits, hits-hit}
 use Rattle.demands.specs.Updates.{Covered, DeletedBy, InsertedBy}
 
 module _ (p : List ℕ) (d : Doc) (pattern : Pattern p) (sound : Sound d) where

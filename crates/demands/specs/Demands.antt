@@ -135,9 +135,13 @@ pub record DemandThree : Type 0 where
 
 -- Besides: what else the documents say of the calls
 pub record Besides : Type 0 where
-  -- the deep verdict: yes exactly if there is a node conflict or, in some tree, an update point below a node that the read selects
+  -- the deep verdict: yes exactly if there is a node conflict or, in some tree, an update point at or below a node that the read selects
   pub deep-yes : (r : List ℕ) (u : Update) → DeepVerdict r u deep.Yes → Deep r u
   pub deep-no : (r : List ℕ) (u : Update) → DeepVerdict r u deep.No → Deep r u → ⊥
+  -- so it is yes where some tree has an update point at the read node itself; of a delete, that tree is a witness of a node conflict
+  pub deep-at : (r : List ℕ) (u : Update) (answer : Deeply) → DeepVerdict r u answer → deepCheck r u ≡ Fine →
+      (t : List ℕ) → Sound (bare t) → (v : ℕ) → Selects r (bare t) v → Selects (pattern u) (bare t) v → answer ≡ deep.Yes
+  pub deep-at-delete : (r p : List ℕ) → deepCheck r (delete p) ≡ Fine → (t : List ℕ) → Sound (bare t) → (v : ℕ) → Selects r (bare t) v → Selects p (bare t) v → Witness r (delete p) t
   -- an update's plan word is its number among the updates, from 1; batches that agree on a read and the updates before it give it the same slot
   pub numbers : (b before plan : List ℕ) (n k : ℕ) (u : Update) → Plan b before plan (planned.Frames n) → At (batchOf b) k (update u) → getD plan k 0 ≡ number (batchOf b) k
   pub same-slot : (b c : List ℕ) → Bits16 b → Bits16 c → batchCheck b ≡ Fine → batchCheck c ≡ Fine → (k l : ℕ) (r : List ℕ) → At (batchOf b) k (read r) → At (batchOf c) l (read r) →

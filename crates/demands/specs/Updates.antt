@@ -3,17 +3,16 @@ use Prim.Native.Nat.{ℕ, _+_, _*_, _<_, _≤_}
 use mathlib.Core.Path.{_≡_}
 use mathlib.Core.Bool.{true}
 use mathlib.Core.List.{List}
-use mathlib.Core.Logic.{_⊎_}
 use lib.ListN.{length, getD}
 use Rattle.tables.specs.Words.{nodes, parent, tag}
 use Rattle.tables.specs.Documents.{Doc, mark, present}
-use Rattle.selection.specs.Embeddings.{Below, Selects}
+use Rattle.selection.specs.Embeddings.{AtOrBelow, Selects}
 
 -- v is a node that p selects, or lies below one
 pub record Covered (p : List ℕ) (d : Doc) (v : ℕ) : Type 0 where
   pub point : ℕ
   pub selects : Selects p d point
-  pub under : (v ≡ point) ⊎ Below (d .rows) point v
+  pub under : AtOrBelow (d .rows) point v
 
 -- e is d after a delete at p: the present nodes that p covers are marked as removed, and nothing else changes
 pub record DeletedBy (p : List ℕ) (d e : Doc) : Type 0 where

@@ -1,13 +1,13 @@
 -- P1 to P15 hold: one test, computed over the whole list, and one law that turns it into the claim for each example.
-use Prim.Native.Nat.{ℕ, zero, suc, pred, _<_}
+use Prim.Native.Nat.{ℕ, zero, suc, _<_}
 use mathlib.Core.Path.{_≡_, refl, sym, _∙_}
 use mathlib.Core.Bool.{Bool, true, false, _&&_, _||_, not, false≢true}
 use mathlib.Core.List.{List, [], _∷_}
-use mathlib.Core.Logic.{inl, inr, ⊎-elim}
+use mathlib.Core.Logic.{_↔_, inl, inr, ⊎-elim}
 use native.Mathlib.Omega.{arith}
 use lib.Dec.{eqb, ltb}
 use lib.ListN.{length}
-use borrow.Author.Tests.{eqb-true, ltb-true, ltb-false, lt-ltb, not-true}
+use borrow.Author.Tests.{eqb-true, ltb-true, ltb-false, not-true}
 use Rattle.tables.specs.Limits.{stepLimit, treeLimit, wordLimit}
 use Rattle.tables.specs.Words.{steps, label, Bits16}
 use Rattle.tables.specs.Patterns.{Pattern}
@@ -15,12 +15,12 @@ use Rattle.tables.specs.Checks.{patternCheck, treeCheck, sizeCheck, each, axisC
 use Rattle.tables.specs.declared.refusal.Checked.{Checked}
 use Rattle.tables.specs.declared.refusal.Checked.the-variants.{Fine, Refused}
 use Rattle.tables.proofs.Soundness.{accepted-pattern, accepted-tree}
-use Rattle.selection.specs.Ways.{last, up, ups}
+use Rattle.selection.specs.Ways.{up, ups}
 use Rattle.selection.proofs.Runs.{either, both}
 use Rattle.conflict.specs.Conflict.{Update, Smallest, Conflict, Touches, pattern}
 use Rattle.conflict.specs.Conflict.Update.{delete, insert}
 use Rattle.conflict.specs.Meeting.{agree, landing, shared, sooner, least, onward, shorter, longer, meeting, fewest, meetingOf, fewestOf}
-use Rattle.conflict.specs.Crossing.{over, goesOn, somewhere, enters, entering, deleteWay, insertWay}
+use Rattle.conflict.specs.Crossing.{over, goesOn, somewhere, enters, entering, deleteWay, insertWay, touches}
 use Rattle.conflict.proofs.Deletes.{smallest-delete}
 use Rattle.conflict.proofs.Inserts.{smallest-insert}
 use Rattle.conflict.proofs.Deeps.{touching}
@@ -50,13 +50,10 @@ accepted : Update → Bool
 accepted (delete p) = fine (patternCheck p stepLimit 2) && (small p && ltb 1 (steps p))
 accepted (insert p x) = fine (patternCheck p stepLimit 2) && (small p && (fine (treeCheck x treeLimit 3) && small x))
 
--- the number of nodes of a smallest witness, and whether an update point lies below a read node
+-- the number of nodes of a smallest witness
 nodesOf : List ℕ → Update → ℕ
 nodesOf r (delete p) = length (deleteWay r p)
 nodesOf r (insert p x) = length (insertWay r p x)
-
-touched : List ℕ → List ℕ → Bool
-touched r p = ltb 1 (steps p) && ltb 0 (fewestOf r true p false (last r) (pred (last p)))
 
 said : Said → ℕ → Bool → Bool
 said nothing n t = true
@@ -67,7 +64,7 @@ right : Example → Bool
 right x =
     (fine (patternCheck (x .read) stepLimit 1) && small (x .read))
     && (accepted (x .update)
-    && (eqb (nodesOf (x .read) (x .update)) (x .number) && said (x .deep) (x .number) (touched (x .read) (pattern (x .update)))))
+    && (eqb (nodesOf (x .read) (x .update)) (x .number) && said (x .deep) (x .number) (touches (x .read) (pattern (x .update)))))
 
 all-right : List Example → Bool
 all-right [] = true
@@ -105,19 +102,10 @@ smallest-of r (insert p x) h e =
 
 module _ (r : List ℕ) (u : Update) {n : ℕ} (smallest : Smallest r u n) (read : Accepted r) (update : Accepted (pattern u)) where
   abbrev touch : Bool
-  touch = touched r (pattern u)
+  touch = touches r (pattern u)
 
-  touches-of : touch ≡ true → Touches r u
-  unfolding touched
-  touches-of e =
-      touching r u (read .is-pattern) (update .is-pattern) (labels-of read) (labels-of update) .1
-      (both (ltb 1 (steps (pattern u))) _ e (λ two some. (ltb-true 1 _ two, ltb-true 0 _ some)))
-
-  of-touches : Touches r u → touch ≡ true
-  unfolding touched
-  of-touches t =
-      let h = touching r u (read .is-pattern) (update .is-pattern) (labels-of read) (labels-of update) .0 t in
-      rw (lt-ltb 1 (steps (pattern u)) (h .0)) (lt-ltb 0 _ (h .1))
+  touch-test : Touches r u ↔ (touch ≡ true)
+  touch-test = touching r u (read .is-pattern) (update .is-pattern) (labels-of read) (labels-of update)
 
   conflict-of : 0 < n → Conflict r u
   conflict-of h = record { tree = smallest .some h .0; shows = smallest .some h .1 }
@@ -125,12 +113,12 @@ module _ (r : List ℕ) (u : Update) {n : ℕ} (smallest : Smallest r u n) (read
   deep-claim : (s : Said) → said s n touch ≡ true → DeepClaim s r u
   unfolding said
   deep-claim nothing e = tt
-  deep-claim says-yes e = either (ltb 0 n) touch e (λ h. inl (conflict-of (ltb-true 0 n h))) (λ h. inr (touches-of h))
+  deep-claim says-yes e = either (ltb 0 n) touch e (λ h. inl (conflict-of (ltb-true 0 n h))) (λ h. inr (touch-test .1 h))
   deep-claim says-no e =
       both (not (ltb 0 n)) (not touch) e (λ h k.
       ⊎-elim
       (smallest .none (omega (arith, ltb-false 0 n (not-true _ h))))
-      (λ t. false≢true (sym (not-true touch k) ∙ of-touches t)))
+      (λ t. false≢true (sym (not-true touch k) ∙ touch-test .0 t)))
 
 claim-of : (x : Example) → right x ≡ true → Claim x
 unfolding right
@@ -150,5 +138,5 @@ every-of (x ∷ xs) e = both (right x) (all-right xs) e (λ h k. more (claim-of 
 
 -- P1 to P15 hold
 pub marked : Marked
-unfolding all-right right fine small accepted nodesOf touched said patternCheck treeCheck sizeCheck each axisCheck axisRight nodeCheck parentRight deleteWay insertWay entering enters somewhere goesOn over shorter longer sooner meetingOf meeting fewestOf fewest least onward agree landing shared up ups
+unfolding all-right right fine small accepted nodesOf touches said patternCheck treeCheck sizeCheck each axisCheck axisRight nodeCheck parentRight deleteWay insertWay entering enters somewhere goesOn over shorter longer sooner meetingOf meeting fewestOf fewest least onward agree landing shared up ups
 marked = record { fifteen = refl; every = every-of examples refl }

@@ -1,4 +1,4 @@
--- The marked examples of document 01: for each, the nodes of a smallest witness and, where the document gives it, the deep verdict.
+-- The marked examples of document 01: for each, the nodes of a smallest witness and, where a document gives it, the deep verdict. P15's is document 02's.
 use Prim.Native.Nat.{ℕ}
 use mathlib.Core.Path.{_≡_}
 use mathlib.Core.List.{List, [], _∷_, _++_}
@@ -43,7 +43,7 @@ leaf l = 0 ∷ l ∷ []
 abbrev over : ℕ → ℕ → List ℕ
 over l m = 0 ∷ l ∷ 0 ∷ m ∷ []
 
--- what the document says of the deep verdict
+-- what the documents say of the deep verdict
 pub data Said : Type 0 where
   nothing : Said
   says-yes : Said
@@ -78,7 +78,7 @@ examples =
     ∷ of (root a child c) (insert (root a below b) (leaf c)) 0
     ∷ of (root a child any child b) (delete (root a child b below any)) 3
     ∷ of (root a below b below c) (delete (root a below d below e)) 5
-    ∷ deeply says-no (root a child b) (insert (root a child b) (leaf c)) 0
+    ∷ deeply says-yes (root a child b) (insert (root a child b) (leaf c)) 0
     ∷ []
 
 -- what an example claims

@@ -3,6 +3,7 @@ pub mod Up
 pub mod Runs
 pub mod Presence
 pub mod Selecting
+pub mod Hitting
 pub mod Lists
 pub mod Filling
 pub mod Rows

@@ -17,6 +17,10 @@ pub data Below (t : List ℕ) : ℕ → ℕ → Type 0 where
   one : {u v : ℕ} → Child t u v → Below t u v
   more : {u w v : ℕ} → Below t u w → Child t w v → Below t u v
 
+-- v is u itself, or a descendant of it
+abbrev pub AtOrBelow : List ℕ → ℕ → ℕ → Type 0
+AtOrBelow t u v = (v ≡ u) ⊎ Below t u v
+
 -- the steps of p placed on present nodes: the first on the root, labels agree (a wildcard with any), and each axis holds
 pub record Embedding (p : List ℕ) (d : Doc) (place : ℕ → ℕ) : Type 0 where
   pub on-present : (i : ℕ) → i < steps p → present d (place i) ≡ true

@@ -27,7 +27,7 @@ module _ {got : Checked} (check : Checked) (e : got ≡ check) where
   unfolding deeplyOf
   deeply-off b told = rw (← e, told)
 
--- a node conflict, or none and an update point below
+-- a node conflict, or none and an update point at or below a node that is read
 module _ {n : ℕ} (way before after : List ℕ) (touch : Bool) (w : WayWritten way before after n) where
   pub conflict-deep : 0 < n → true ≡ (ltb 0 (length way) || touch)
   conflict-deep h = rw (← w .count, lt-ltb 0 n h)

@@ -1,29 +1,26 @@
 -- From the check, the way and the tests to what the deep verdict promises; the promise fixes the answer, and can be met for every input.
-use Prim.Native.Nat.{ℕ, pred, _+_, _*_}
+use Prim.Native.Nat.{ℕ, _+_, _*_}
 use native.Mathlib.Omega.{arith}
 use mathlib.Core.Path.{_≡_, refl, sym, _∙_}
-use mathlib.Core.Bool.{Bool, true, false, _||_, false≢true, and-eq-true-iff}
+use mathlib.Core.Bool.{Bool, true, false, _||_, false≢true}
 use mathlib.Core.List.{List}
 use mathlib.Core.Logic.{_↔_, inl, inr, ⊎-elim}
 use lib.Dec.{ltb}
 use lib.ListN.{length}
-use borrow.Author.Tests.{lt-ltb, ltb-true, ltb-false}
-use Rattle.tables.specs.Words.{steps, Bits16}
+use borrow.Author.Tests.{ltb-true, ltb-false}
+use Rattle.tables.specs.Words.{Bits16}
 use Rattle.tables.specs.Patterns.{Pattern}
 use Rattle.tables.specs.declared.refusal.Checked.{Checked}
 use Rattle.tables.specs.declared.refusal.Checked.the-variants.{Fine, Refused}
 use Rattle.tables.proofs.Accepted.{never}
-use Rattle.selection.specs.Ways.{last}
 use Rattle.conflict.specs.Conflict.{Update, UpdateBits, delete, insert, pattern, Touches}
-use Rattle.conflict.specs.Meeting.{fewestOf}
-use Rattle.conflict.specs.Crossing.{chain, deleteWay, insertWay}
+use Rattle.conflict.specs.Crossing.{chain, deleteWay, insertWay, touches}
 use Rattle.conflict.proofs.Smallest.{smallest}
 use Rattle.conflict.proofs.Deeps.{touching}
 use Rattle.outcomes.specs.declared.verdicts.Deeply.{Deeply}
 use Rattle.outcomes.specs.declared.verdicts.Deeply.the-variants.{No, Yes, Refused as NotDeep}
 use Rattle.check_verdict.specs.Order.{deepCheck, deepDeleteCheck, deepInsertCheck}
 use Rattle.check_verdict.proofs.Accepting.{patterns-read, patterns-update, delete-patterns, insert-patterns}
-use Rattle.verdict_ways.specs.Ways.{touches}
 use Rattle.verdict_ways.proofs.Deciding.{Deciding, delete-deciding, insert-deciding}
 use Rattle.verdict_deep.specs.Promise.{DeepVerdict}
 use Rattle.verdict_deep.specs.Deep.{deleteDeep, insertDeep}
@@ -53,16 +50,7 @@ module _ {r : List ℕ} {u : Update} {way : List ℕ} where
 
 -- the test of the touch
 touch-test : (r : List ℕ) (u : Update) → Bits16 r → Bits16 (pattern u) → Pattern r → Pattern (pattern u) → Touches r u ↔ (touches r (pattern u) ≡ true)
-unfolding touches
-touch-test r u names others read update =
-    let p : List ℕ = pattern u in
-    let n : ℕ = fewestOf r true p false (last r) (pred (last p)) in
-    let way = touching r u read update (λ k. names (2 * k + 1)) (λ k. others (2 * k + 1)) in (
-      λ t. rw (lt-ltb 1 (steps p) (way .0 t .0), lt-ltb 0 n (way .0 t .1)),
-      λ e.
-          let both = and-eq-true-iff (ltb 1 (steps p)) (ltb 0 n) .0 e in
-          way .1 (ltb-true 1 (steps p) (both .0), ltb-true 0 n (both .1)),
-    )
+touch-test r u names others read update = touching r u read update (λ k. names (2 * k + 1)) (λ k. others (2 * k + 1))
 
 -- a delete: every word has 16 bits
 module _ (r p : List ℕ) (names : Bits16 r) (others : Bits16 p) where

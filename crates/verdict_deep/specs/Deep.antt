@@ -4,10 +4,9 @@ use mathlib.Core.Bool.{Bool, _||_}
 use mathlib.Core.List.{List}
 use lib.Dec.{ltb}
 use lib.ListN.{length}
-use Rattle.conflict.specs.Crossing.{deleteWay, insertWay}
-use Rattle.verdict_ways.specs.Ways.{touches}
+use Rattle.conflict.specs.Crossing.{deleteWay, insertWay, touches}
 
--- the deep verdict: a node conflict, or an update point below a node that is read
+-- the deep verdict: a node conflict, or an update point at or below a node that is read
 unfoldable pub deleteDeep : List ℕ → List ℕ → Bool
 deleteDeep r p = ltb 0 (length (deleteWay r p)) || touches r p
 

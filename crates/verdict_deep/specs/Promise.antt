@@ -8,7 +8,7 @@ use Rattle.outcomes.specs.declared.verdicts.Deeply.{Deeply}
 use Rattle.outcomes.specs.declared.verdicts.Deeply.the-variants.{No, Yes, Refused as NotDeep}
 use Rattle.check_verdict.specs.Order.{deepCheck}
 
--- no: neither a node conflict nor, in any tree, an update point below a node that the read selects
+-- no: neither a node conflict nor, in any tree, an update point at or below a node that the read selects
 pub record IsNo (r : List ℕ) (u : Update) : Type 0 where
   pub fine : deepCheck r u ≡ Fine
   pub none : Deep r u → ⊥

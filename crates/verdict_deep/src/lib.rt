@@ -1,4 +1,4 @@
-// The deep verdict, yes or no: a node conflict, or an update point below a node that the read selects.
+// The deep verdict, yes or no: a node conflict, or an update point at or below a node that the read selects.
 use check_verdict::deep_delete_check;
 use check_verdict::deep_insert_check;
 use outcomes::verdicts::Deeply;
@@ -39,7 +39,7 @@ fn yes_or_no(b: bool) -> Deeply
     Deeply::No
 }
 
-// Whether a read and a delete conflict, or an update point can lie below a node that is read.
+// Whether a read and a delete conflict, or an update point can lie at or below a node that is read.
 fn delete_deep(r: &[u16], p: &[u16]) -> bool
     requires { ⌜ deepDeleteCheck (now r) (now p) ≡ Fine ⌝ }
     ensures { λ b. ⌜ b ≡ deleteDeep (now (r .entry)) (now (p .entry)) ⌝ }

@@ -17,7 +17,7 @@ use Rattle.selection.specs.Ways.{last}
 use Rattle.selection.specs.Lists.{tab}
 use Rattle.selection.proofs.Lists.{getD-tab}
 use Rattle.conflict.specs.Meeting.{sooner, shorter, meetingOf, fewestOf}
-use Rattle.conflict.specs.Crossing.{enters, entering, deleteWay, insertWay}
+use Rattle.conflict.specs.Crossing.{enters, entering, deleteWay, insertWay, touches}
 use Rattle.conflict.proofs.Shortest.{length-meetingOf}
 use Rattle.check_verdict.specs.Admitted.{Bounded}
 use Rattle.check_verdict.specs.Order.{needed, patternsCheck, deleteVerdictCheck, insertVerdictCheck}
@@ -25,7 +25,7 @@ use Rattle.check_verdict.proofs.Accepting.{read-fine, patterns-bounded, delete-
 use Rattle.verdict_entering.specs.Entering.{enteringCheck, entered}
 use Rattle.verdict_meeting.specs.Met.{markedWay, nearest, met, Met}
 use Rattle.verdict_ways.specs.Marked.{Only}
-use Rattle.verdict_ways.specs.Ways.{touches, WayWritten}
+use Rattle.verdict_ways.specs.Ways.{WayWritten}
 
 -- one state of so many is marked
 pub only-set : (i : ℕ) → i < stepLimit → {states : List ℕ} → states ≡ set (replicate {A = ℕ} stepLimit 0) i 1 → Only i states
@@ -150,23 +150,16 @@ module _ (r p x : List ℕ) {j n : ℕ} (states before after : List ℕ) (fine :
       rw (last-is (steps p) j e, last-of (steps r) (bounded .reads-some)) (nearest-last r p x states enterable w (bounded .reads-some) (bounded .reads)) in
       rw way at (met-written r false p false states j patterns (last-less (steps p) j (bounded .updates-some) e) m (insert-room r p (length before) x fine))
 
--- an update point below a node that is read
-pub touch-one : (r p : List ℕ) → steps p ≤ 1 → false ≡ touches r p
+-- an update point at or below a node that is read: the way is counted
+pub touch-counted : (r p : List ℕ) {i j n : ℕ} (states before after : List ℕ) → patternsCheck r p ≡ Fine → i ≡ steps r - 1 → j ≡ steps p - 1 → Only i states
+    → Met r p (met (patternsCheck r p) (ltb j (steps p)) (nearest r true p false states j (steps r))) before after n → ltb 0 n ≡ touches r p
 unfolding touches
-touch-one r p h = rw (le-ltb 1 (steps p) h)
-
-two-less : (n m : ℕ) → 1 < n → m ≡ n - 2 → (m < n) × (m ≡ pred (pred n))
-two-less n m h e = omega arith
-
-pub touch-more : (r p : List ℕ) {i n : ℕ} (states before after : List ℕ) → patternsCheck r p ≡ Fine → 1 < steps p → i ≡ steps r - 1 → Only i states
-    → Met r p (met (patternsCheck r p) (ltb (steps p - 2) (steps p)) (nearest r true p false states (steps p - 2) (steps r))) before after n → ltb 0 n ≡ touches r p
-unfolding touches
-touch-more r p {i} {n} states before after fine h d only m =
-    let j = two-less (steps p) (steps p - 2) h refl in
-    let all = last-suc (steps r) i (patterns-bounded r p fine .reads-some) d in
-    let count : n ≡ fewestOf r true p false i (steps p - 2) =
-    met-all r true p false states (steps p - 2) fine (j .0) m .count
-    ∙ ap (λ (k : ℕ). length (nearest r true p false states (steps p - 2) k)) all
-    ∙ ap length (nearest-only r true p false states (steps p - 2) i only)
-    ∙ length-meetingOf r true p false i (steps p - 2) in
-    rw (lt-ltb 1 (steps p) h, count, last-is (steps r) i d, j .1)
+touch-counted r p {i} {j} {n} states before after fine d e only m =
+    let bounded = patterns-bounded r p fine in
+    let all = last-suc (steps r) i (bounded .reads-some) d in
+    let count : n ≡ fewestOf r true p false i j =
+    met-all r true p false states j fine (last-less (steps p) j (bounded .updates-some) e) m .count
+    ∙ ap (λ (k : ℕ). length (nearest r true p false states j k)) all
+    ∙ ap length (nearest-only r true p false states j i only)
+    ∙ length-meetingOf r true p false i j in
+    rw (count, last-is (steps r) i d, last-is (steps p) j e)

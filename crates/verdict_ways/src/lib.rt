@@ -14,10 +14,10 @@ ghost use lib.ListN.{length};
 ghost use Rattle.tables.specs.Limits.{stepLimit};
 ghost use Rattle.tables.specs.Checks.{whereFine};
 ghost use Rattle.tables.specs.declared.refusal.Checked.the-variants.{Fine};
-ghost use Rattle.conflict.specs.Crossing.{deleteWay, insertWay};
+ghost use Rattle.conflict.specs.Crossing.{deleteWay, insertWay, touches};
 ghost use Rattle.check_verdict.specs.Order.{patternsCheck, deleteVerdictCheck, insertVerdictCheck};
 ghost use Rattle.verdict_ways.specs.Marked.{Only};
-ghost use Rattle.verdict_ways.specs.Ways.{touches, WayWritten};
+ghost use Rattle.verdict_ways.specs.Ways.{WayWritten};
 
 // A byte for every state, with a 1 at state i.
 fn only(i: usize) -> [u8; STEP_LIMIT]
@@ -50,19 +50,16 @@ fn shortest_insert(r: &[u16], p: &[u16], x: &[u16], out: &mut [u16]) -> usize
     meet(r, false, p, false, &states, j, out)
 }
 
-// Whether some way has an update point of p below a node that r selects; the way is counted, and written nowhere.
+// Whether some way has an update point of p at or below a node that r selects; the way is counted, and written nowhere.
 fn touch_found(r: &[u16], p: &[u16]) -> bool
     requires { ⌜ patternsCheck (now r) (now p) ≡ Fine ⌝ }
     ensures { λ b. ⌜ b ≡ touches (now (r .entry)) (now (p .entry)) ⌝ }
 {
-    let n = p.len() / 2;
-    if n <= 1 {
-        return false;
-    }
     let i = r.len() / 2 - 1;
+    let point = p.len() / 2 - 1;
     let states = only(i);
     let mut nowhere = [0; 1];
-    0 < meet(r, true, p, false, &states, n - 2, &mut nowhere)
+    0 < meet(r, true, p, false, &states, point, &mut nowhere)
 }
 
 // The shortest way that the read selects and the delete hits: how many labels it has, 0 for none, and its chain at the front of the output.
@@ -85,7 +82,7 @@ pub fn insert_way(r: &[u16], p: &[u16], x: &[u16], out: &mut [u16]) -> usize
     }
 }
 
-// Whether some way has an update point of the update below a node that the read selects.
+// Whether some way has an update point at or below a node that the read selects.
 pub fn touching(r: &[u16], p: &[u16]) -> bool
     ensures { λ b. ⌜ b ≡ whereFine (patternsCheck (now (r .entry)) (now (p .entry))) (touches (now (r .entry)) (now (p .entry))) false ⌝ }
 {

@@ -43,6 +43,7 @@ pub use Rattle.verdict.specs.Promise.{NodeVerdict, witnessNodes}
 pub use Rattle.verdict_deep.specs.Promise.{DeepVerdict}
 pub use Rattle.outcomes.specs.declared.verdicts.Verdict.{Verdict}
 pub use Rattle.outcomes.specs.declared.verdicts.Verdict.the-variants as verdict
+pub use Rattle.outcomes.specs.declared.verdicts.Deeply.{Deeply}
 pub use Rattle.outcomes.specs.declared.verdicts.Deeply.the-variants as deep
 pub use Rattle.marked.specs.Marked.{Marked}
 -- batches: stepAt is promised by the walker's next and by step, placeAfter and numberAfter by its moved, Plan by plan

@@ -1,4 +1,4 @@
--- A node conflict, or an update point below.
+-- A node conflict, or an update point at or below a node that is read.
 use Rattle.check_verdict.proofs.Accepting.{delete-patterns, delete-longest}
 use Rattle.verdict_ways.proofs.Allowed.{granted, granted-test}
 use Rattle.verdict_deep.proofs.Judging.{conflict-deep, clear-deep}
