@@ -33,7 +33,7 @@ pub extern "C" fn sloefertand_insert_verdict(
     judged(insert_verdict(r, p, x, out))
 }
 
-// A read and a delete, below the read nodes too. First: 1 for yes, 0 for no.
+// A read and a delete, at and below the read nodes too. First: 1 for yes, 0 for no.
 #[no_mangle]
 pub extern "C" fn sloefertand_deep_delete_verdict(r: &[u16], p: &[u16]) -> Answer
     ensures { λ a. ⌜ Told ofDeeply (DeepVerdict (now (r .entry)) (delete (now (p .entry)))) a ⌝ }
@@ -41,7 +41,7 @@ pub extern "C" fn sloefertand_deep_delete_verdict(r: &[u16], p: &[u16]) -> Answe
     deeply(deep_delete_verdict(r, p))
 }
 
-// A read and an insert of the tree x, below the read nodes too. First: 1 for yes, 0 for no.
+// A read and an insert of the tree x, at and below the read nodes too. First: 1 for yes, 0 for no.
 #[no_mangle]
 pub extern "C" fn sloefertand_deep_insert_verdict(r: &[u16], p: &[u16], x: &[u16]) -> Answer
     ensures { λ a. ⌜ Told ofDeeply (DeepVerdict (now (r .entry)) (insert (now (p .entry)) (now (x .entry)))) a ⌝ }
