@@ -17,14 +17,14 @@ use Rattle.tables.specs.declared.refusal.Checked.the-variants.{Fine, Refused}
 use Rattle.tables.proofs.Soundness.{accepted-pattern, accepted-tree}
 use Rattle.selection.specs.Ways.{up, ups}
 use Rattle.selection.proofs.Runs.{either, both}
-use Rattle.conflict.specs.Conflict.{Update, Smallest, Conflict, Touches, pattern}
+use Rattle.conflict.specs.Conflict.{Update, Smallest, Conflict, Touches, Deep, pattern}
 use Rattle.conflict.specs.Conflict.Update.{delete, insert}
 use Rattle.conflict.specs.Meeting.{agree, landing, shared, sooner, least, onward, shorter, longer, meeting, fewest, meetingOf, fewestOf}
 use Rattle.conflict.specs.Crossing.{over, goesOn, somewhere, enters, entering, deleteWay, insertWay, touches}
 use Rattle.conflict.proofs.Deletes.{smallest-delete}
 use Rattle.conflict.proofs.Inserts.{smallest-insert}
 use Rattle.conflict.proofs.Deeps.{touching}
-use Rattle.marked.specs.Marked.{Said, Said.nothing, Said.says-yes, Said.says-no, Example, examples, DeepClaim, Claim, Every, Every.none, Every.more, Marked}
+use Rattle.marked.specs.Marked.{Said, Said.nothing, Said.says-yes, Said.says-no, Example, examples, pointAbove, DeepClaim, Claim, Every, Every.none, Every.more, Marked}
 
 fine : Checked → Bool
 fine Fine = true
@@ -136,7 +136,20 @@ unfolding all-right
 every-of [] e = none
 every-of (x ∷ xs) e = both (right x) (all-right xs) e (λ h k. more (claim-of x h) (every-of xs k))
 
+-- the test over the list, and over one example more
+computed : all-right (pointAbove ∷ examples) ≡ true
+unfolding all-right right fine small accepted nodesOf touches said patternCheck treeCheck sizeCheck each axisCheck axisRight nodeCheck parentRight deleteWay insertWay entering enters somewhere goesOn over shorter longer sooner meetingOf meeting fewestOf fewest least onward agree landing shared up ups
+computed = refl
+
 -- P1 to P15 hold
 pub marked : Marked
-unfolding all-right right fine small accepted nodesOf touches said patternCheck treeCheck sizeCheck each axisCheck axisRight nodeCheck parentRight deleteWay insertWay entering enters somewhere goesOn over shorter longer sooner meetingOf meeting fewestOf fewest least onward agree landing shared up ups
-marked = record { fifteen = refl; every = every-of examples refl }
+unfolding all-right
+marked = record { fifteen = refl; every = both (right pointAbove) (all-right examples) computed (λ h k. every-of examples k) }
+
+-- and so does the point above: there is no deep yes
+pub point-above : Claim pointAbove
+unfolding all-right
+point-above = both (right pointAbove) (all-right examples) computed (λ h k. claim-of pointAbove h)
+
+pub point-above-no : Deep (pointAbove .read) (pointAbove .update) → ⊥
+point-above-no = point-above .deeper

@@ -101,6 +101,10 @@ pub record Marked : Type 0 where
   pub fifteen : length examples ≡ 15
   pub every : Every examples
 
+-- read a/b/c, insert e at a/b: an update point lies above a read node at best, and that is no yes
+abbrev pub pointAbove : Example
+pointAbove = deeply says-no (root a child b child c) (insert (root a child b) (leaf e)) 0
+
 -- the chain a, b, which document 01 names as a witness of P1
 abbrev pub chainOfTwo : List ℕ
 chainOfTwo = 0 ∷ a ∷ 0 ∷ b ∷ []
