@@ -101,7 +101,7 @@ pub record Marked : Type 0 where
   pub fifteen : length examples ≡ 15
   pub every : Every examples
 
--- read a/b/c, insert e at a/b: an update point lies above a read node at best, and that is no yes
+-- read a/b/c, insert e at a/b: no conflict, and an update point lies above a read node at best, so the deep verdict is no
 abbrev pub pointAbove : Example
 pointAbove = deeply says-no (root a child b child c) (insert (root a child b) (leaf e)) 0
 
