@@ -116,6 +116,8 @@ sloefertand_answer sloefertand_plain_reading(const uint16_t *pattern, size_t pat
                                              size_t tree_words, uint8_t *row, size_t row_bytes);
 
 /* Marks each node that the pattern selects, and all nodes below it, as removed. first: how many were present before.
+ * Deletes that follow one another leave the same marks in every order, and their counts make the same sum; a count alone may
+ * differ. The same delete again changes nothing and counts 0.
  * Refusals: the document's, the pattern's (1, 2, 3 of table 2), 6 of table 2. */
 sloefertand_answer sloefertand_delete(const uint16_t *pattern, size_t pattern_words, const uint16_t *rows, size_t rows_words,
                                       uint8_t *marks, size_t marks_bytes, size_t used);

@@ -23,6 +23,20 @@ impl Document {
         (0..self.used).map(|v| u8::from(found.has(v))).collect()
     }
 
+    /// The present nodes that the pattern selects or that lie below one that it
+    /// selects. Nothing is removed.
+    pub fn covered(&self, pattern: &Pattern) -> NodeSet {
+        let tree = self.linked();
+        let found = selected(&tree, pattern);
+        let mut covered = NodeSet::default();
+        for v in 0..self.used {
+            if !tree.node(v).removed && tree.upward(v).any(|above| found.has(above)) {
+                covered.put(v);
+            }
+        }
+        covered
+    }
+
     /// Removes what the pattern selects and gives the number of nodes newly
     /// removed; a pattern of one step is refused and changes nothing.
     pub fn delete(&mut self, pattern: &Pattern) -> Result<usize, Refusal> {

@@ -8,7 +8,7 @@ use crate::tree::Row;
 use std::io::{self, Write};
 
 /// Documents have 1 to this many nodes.
-const MOST_NODES: usize = 4;
+pub const MOST_NODES: usize = 4;
 
 /// Inserts are tried on documents of at most this many nodes.
 const MOST_FOR_INSERT: usize = 3;
@@ -31,7 +31,7 @@ struct Tally {
 /// Writes table 2, a line a document.
 pub fn write(numbering: &Numbering, out: &mut dyn Write) -> io::Result<Counts> {
     let mut tally = Tally::default();
-    for document in documents() {
+    for document in (1..=MOST_NODES).flat_map(documents_of) {
         tally.documents += 1;
         let reads = reads(numbering, &document, &mut tally);
         let deletes = deletes(numbering, &document, &mut tally);
@@ -47,10 +47,9 @@ pub fn write(numbering: &Numbering, out: &mut dyn Write) -> io::Result<Counts> {
     ])
 }
 
-/// All small documents in order: trees, then their sound markings.
-fn documents() -> impl Iterator<Item = Document> {
-    (1..=MOST_NODES)
-        .flat_map(|nodes| trees_of(nodes, TREE_LABELS))
+/// All documents of so many nodes in order: trees, then their sound markings.
+pub fn documents_of(nodes: usize) -> impl Iterator<Item = Document> {
+    trees_of(nodes, TREE_LABELS)
         .flat_map(|table| markings(&table).map(move |marking| document(&table, marking)))
 }
 

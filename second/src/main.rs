@@ -1,4 +1,4 @@
-//! Sloefertand's second program: five tables, found by trying all small trees and making all small texts.
+//! Sloefertand's second program: six tables, found by trying all small trees and making all small texts.
 
 mod batch;
 mod classes;
@@ -7,6 +7,7 @@ mod damage;
 mod digest;
 mod document;
 mod documents;
+mod either_order;
 #[cfg(test)]
 mod examples;
 mod letters;
@@ -37,7 +38,7 @@ use std::ffi::OsString;
 use std::io::{self, BufWriter, Write};
 use std::process::ExitCode;
 
-const USAGE: &str = "usage: second [pairs | documents | damage | plans | texts | counts]";
+const USAGE: &str = "usage: second [pairs | documents | damage | plans | texts | deletes | counts]";
 
 /// What is asked for.
 #[derive(Clone, Copy, PartialEq, Eq)]
@@ -48,6 +49,7 @@ enum Wanted {
     Damage,
     Plans,
     Texts,
+    Deletes,
     Counts,
 }
 
@@ -61,6 +63,7 @@ fn wanted(arguments: &[OsString]) -> Option<Wanted> {
             "damage" => Some(Wanted::Damage),
             "plans" => Some(Wanted::Plans),
             "texts" => Some(Wanted::Texts),
+            "deletes" => Some(Wanted::Deletes),
             "counts" => Some(Wanted::Counts),
             _ => None,
         },
@@ -68,7 +71,7 @@ fn wanted(arguments: &[OsString]) -> Option<Wanted> {
     }
 }
 
-/// Writes the five tables in order and gives all their counts.
+/// Writes the six tables in order and gives all their counts.
 fn write_all(numbering: &Numbering, out: &mut dyn Write) -> io::Result<counts::Counts> {
     let pairs = Pairs::tried(numbering);
     let mut counts = pairs.write(out)?;
@@ -76,6 +79,7 @@ fn write_all(numbering: &Numbering, out: &mut dyn Write) -> io::Result<counts::C
     counts.extend(damage::write(out)?);
     counts.extend(plans::write(numbering, &pairs, out)?);
     counts.extend(texts::write(out)?);
+    counts.extend(either_order::write(numbering, out)?);
     Ok(counts)
 }
 
@@ -100,6 +104,9 @@ fn run(wanted: Wanted, out: &mut dyn Write) -> io::Result<()> {
         }
         Wanted::Texts => {
             texts::write(out)?;
+        }
+        Wanted::Deletes => {
+            either_order::write(&numbering, out)?;
         }
         Wanted::Counts => counts::write(&write_all(&numbering, &mut io::sink())?, out)?,
     }

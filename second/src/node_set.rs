@@ -18,6 +18,20 @@ impl NodeSet {
         number < 64 && self.members >> number & 1 == 1
     }
 
+    /// What is in this set, in the other one or in both.
+    pub fn with(self, other: NodeSet) -> NodeSet {
+        NodeSet {
+            members: self.members | other.members,
+        }
+    }
+
+    /// What is in this set and not in the other one.
+    pub fn without(self, other: NodeSet) -> NodeSet {
+        NodeSet {
+            members: self.members & !other.members,
+        }
+    }
+
     /// True when nothing is in the set.
     pub fn is_empty(&self) -> bool {
         self.members == 0

@@ -1,4 +1,4 @@
--- The three demands hold, and what stands besides.
+-- The three demands hold, and so does what stands beside them.
 use Prim.Native.Nat.{ℕ, _*_, _<_}
 use mathlib.Core.Path.{_≡_, refl, sym, _∙_}
 use mathlib.Core.List.{List, _++_}
@@ -9,6 +9,7 @@ use lib.Seq.{drop-at}
 use Rattle.tables.specs.Limits.{treeLimit}
 use Rattle.tables.specs.Words.{Bits16}
 use Rattle.tables.specs.Documents.{Doc, bare, Sound}
+use Rattle.tables.specs.Checks.{documentCheck}
 use Rattle.tables.specs.declared.refusal.Checked.the-variants.{Fine}
 use Rattle.tables.proofs.Accepted.{never}
 use Rattle.tables.proofs.Soundness.{accepted-document, accepted-tree}
@@ -16,9 +17,11 @@ use Rattle.doc_read.proofs.Laws.{read-selects}
 use Rattle.selection.specs.Embeddings.{Selects}
 use Rattle.selection.specs.Operations.{copies}
 use Rattle.selection.proofs.Selecting.{selecting}
+use Rattle.doc_updates.specs.Updating.{deleteCheck}
 use Rattle.doc_updates.proofs.Accepted.{delete-document, delete-pattern, insert-document, insert-pattern, insert-tree}
 use Rattle.doc_updates.proofs.Deletes.{delete-fine, delete-doc, delete-count, delete-behind, delete-length}
 use Rattle.doc_updates.proofs.Inserts.{insert-fine, insert-number, insert-doc, insert-words-behind, insert-marks-behind, insert-rows-length, insert-marks-length}
+use Rattle.doc_updates.proofs.Keeping.{Accepted}
 use Rattle.conflict.specs.Conflict.{Update, UpdateBits, delete, insert, pattern, Conflict, SmallestWitness, Chain}
 use Rattle.conflict.proofs.Deletes.{lost-selected}
 use Rattle.conflict.proofs.Chained.{decided-chain}
@@ -37,10 +40,12 @@ use Rattle.order.proofs.Deciding.{conflicting, conflicting-decides}
 use Rattle.batch_check.specs.Batches.{batchOf}
 use Rattle.batch_check.proofs.Frames.{accepted-fits}
 use Rattle.batch_plan.proofs.Laws.{same-slot}
-use Rattle.order_calls.proofs.Accepting.{Accepted}
 use Rattle.order_calls.proofs.Callable.{accepted-callable}
 use Rattle.order_calls.proofs.Running.{run-has, run-works, run-room, run-some}
 use Rattle.order_calls.proofs.Same.{wider-runs}
+use Rattle.order_deletes.proofs.Calls.{calls-marks, calls-count, calls-refusals, calls-some}
+use Rattle.order_deletes.proofs.Orders.{orders-marks, orders-total, either-marks, either-total, second-works, first-fine, again}
+use Rattle.order_deletes.proofs.Example.{above-first, below-first, not-each}
 use Rattle.batch_walk.proofs.Laws.{refused-stays, over-stays}
 use Rattle.batch_walk.proofs.Walk.{parts-join, walk-frames, walk-over, walk-whole, walk-before, walk-refused}
 use Rattle.text_digits.specs.Digits.{wordsOf, lineOf}
@@ -52,11 +57,11 @@ use Rattle.text_pattern.proofs.Returning.{length-words}
 use Rattle.text_printer.proofs.Settled.{printed-one}
 use Rattle.text_printer.proofs.Enough.{room-enough}
 use Rattle.text_printer.proofs.Behind.{prints-first}
-use Rattle.demands.specs.Demands.{DemandOne, DemandTwo, Start, DemandThree, Besides}
+use Rattle.demands.specs.Demands.{DemandOne, DemandTwo, Start, DemandThree, EitherOrder, Besides}
 use Rattle.demands.proofs.Numbering.{stops}
 use Rattle.demands.proofs.Orders as orders
 use Rattle.demands.proofs.Texts.{lists-place, list-lines, texts, texts-place, text-steps, written-reads, read-writes}
-use Rattle.demands.proofs.Updates.{deleted-by, inserted-by}
+use Rattle.demands.proofs.Updates.{deleted-by, all-deleted-by, inserted-by}
 use Rattle.demands.proofs.Agreeing.{readings-agree}
 use Rattle.demands.proofs.Keeping.{keeps-order, order-keeps}
 use Rattle.demands.proofs.Example.{start, moved-plan, moved-keeps}
@@ -132,8 +137,11 @@ demand-two =
       removals = λ p d marks n h. delete-count p d h;
     }
 
+accepted-words : {d : Doc} → Bits16 (d .rows) → documentCheck d ≡ Fine → Accepted d
+accepted-words {d} words fine = record { sound = accepted-document d fine words; fine = fine }
+
 started : {b : List ℕ} {d : Doc} → Start b d → Accepted d
-started {d = d} s = record { sound = accepted-document d (s .document) (s .rows); fine = s .document }
+started s = accepted-words (s .rows) (s .document)
 
 pub demand-three : DemandThree
 demand-three =
@@ -152,6 +160,30 @@ demand-three =
       moved = (moved-plan, moved-keeps);
       runs = run-some;
       calls = λ b o d last calls run i k at. run-has run at;
+    }
+
+accepted-first : (p : List ℕ) (d : Doc) → Bits16 (d .rows) → deleteCheck p d ≡ Fine → Accepted d
+accepted-first p d words fine = accepted-words words (delete-document p d fine)
+
+pub either-order : EitherOrder
+either-order =
+    record {
+      second = λ p q d words first other x y last. second-works (accepted-first p d words first) other;
+      marks = λ p q d words first other x y last end. either-marks (accepted-first p d words first);
+      counts = λ p q d words i j k l last end calls. either-total (accepted-first p d words (first-fine calls)) calls;
+      twice = λ p d words n answers once last calls. again (accepted-first p d words (first-fine calls)) calls;
+      above-first = above-first;
+      below-first = below-first;
+      not-each = not-each;
+      refusals = λ ps d words fine answers last. calls-refusals (accepted-words words fine);
+      removed = λ ps d words fine answers last calls.
+          let accepted = accepted-words words fine in
+          rw (calls-marks accepted calls) (all-deleted-by ps d accepted);
+      removals = λ ps d answers last. calls-count;
+      orders = λ ps qs same d words fine one other last end calls others.
+          let accepted = accepted-words words fine in
+          (orders-marks same accepted calls others, orders-total same accepted calls others);
+      calls = calls-some;
     }
 
 -- behind a text at the front of a buffer all stays

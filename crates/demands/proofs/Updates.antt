@@ -1,15 +1,16 @@
--- A delete removes exactly what its pattern covers by embeddings; an insert puts a copy under exactly the nodes that its pattern selects by embeddings.
-use Prim.Native.Nat.{ℕ, _+_, _*_, _<_}
-use mathlib.Core.Path.{_≡_, refl, _∙_}
-use mathlib.Core.Bool.{Bool, true, false, cond}
+-- A delete removes exactly what its pattern covers by embeddings, and deletes one after another what one of theirs does; an insert puts a copy under exactly the nodes that its pattern selects by embeddings.
+use Prim.Native.Nat.{ℕ, _+_, _*_, _<_, _≤_}
+use mathlib.Core.Path.{_≡_, refl, sym, _∙_}
+use mathlib.Core.Bool.{Bool, true, false, _&&_, cond}
 use mathlib.Core.List.{List}
+use mathlib.Core.Logic.{_↔_}
 use native.Mathlib.Decide.{decLt}
 use native.Mathlib.Nat.{add-zero}
 use native.Mathlib.Omega.{arith}
 use lib.ListN.{getD}
 use Rattle.tables.specs.Words.{nodes}
 use Rattle.tables.specs.Patterns.{Pattern}
-use Rattle.tables.specs.Documents.{Doc, bare, mark, present, Sound}
+use Rattle.tables.specs.Documents.{Doc, doc, bare, mark, present, Sound}
 use Rattle.selection.specs.Lists.{count}
 use Rattle.selection.specs.Ways.{up, selected}
 use Rattle.selection.specs.Operations.{hits, struck, deleted, points, copies, inserted}
@@ -22,7 +23,33 @@ use Rattle.selection.proofs.Hitting.{Hit, hit-hits, hits-hit}
 use Rattle.selection.proofs.Deleting.{deleted-rows, deleted-used, deleted-mark, deleted-behind}
 use Rattle.selection.proofs.Grafting.{copied-below}
 use Rattle.selection.proofs.Inserting.{copies-count, point-selected, selected-number, selected-point, inserted-used, inserted-word-behind, inserted-mark-behind, inserted-kept, inserted-copy}
-use Rattle.demands.specs.Updates.{Covered, DeletedBy, InsertedBy}
+use Rattle.doc_updates.proofs.Accepted.{delete-pattern}
+use Rattle.doc_updates.proofs.Keeping.{Accepted}
+use Rattle.order_deletes.specs.Together.{anyHits, together}
+use Rattle.order_deletes.proofs.Together.{together-mark, together-behind, any-hit, hit-any}
+use Rattle.order_deletes.proofs.Calls.{own-check}
+use Rattle.demands.specs.Updates.{Covered, RemovedAt, DeletedBy, CoveredByOne, AllDeletedBy, InsertedBy}
+
+-- marks that are 1 where a test holds of a present node, and else as before: what the test means is removed
+removed-at : (Gone : ℕ → Type 0) (gone : ℕ → Bool) {d e : Doc} → e .rows ≡ d .rows → e .used ≡ d .used →
+    ((v : ℕ) → v < d .used → mark e v ≡ cond (present d v && gone v) 1 (mark d v)) → ((v : ℕ) → d .used ≤ v → mark e v ≡ mark d v) →
+    ((v : ℕ) → present d v ≡ true → (gone v ≡ true) ↔ Gone v) → RemovedAt Gone d e
+removed-at Gone gone {d} {e} rows used marks behind means = record {
+  rows = rows;
+  used = used;
+  removed = λ v here g. marks v (present-used d v here) ∙ rw (here, means v here .1 g);
+  others = λ v free. others v free (decLt v (d .used));
+}
+  where
+    same : (m : ℕ) (b : Bool) → (b ≡ true → ⊥) → cond b 1 m ≡ m
+    same m true f = absurd (f refl)
+    same m false f = refl
+
+    others : (v : ℕ) → (present d v ≡ true → Gone v → ⊥) → Dec (v < d .used) → mark e v ≡ mark d v
+    others v free (no h) = behind v (omega arith)
+    others v free (yes h) =
+        marks v h
+        ∙ same (mark d v) (present d v && gone v) (λ q. both (present d v) (gone v) q (λ here g. free here (means v here .0 g)))
 
 module _ (p : List ℕ) (d : Doc) (pattern : Pattern p) (sound : Sound d) where
   covered-hits : (v : ℕ) → v < d .used → Covered p d v → hits p (up (d .rows) v) ≡ true
@@ -35,29 +62,35 @@ module _ (p : List ℕ) (d : Doc) (pattern : Pattern p) (sound : Sound d) where
       let hit : Hit p d v = hits-hit p d sound h (way-is sound v h) here e in
       record { point = hit .place; selects = selecting pattern sound (hit .place) .0 (hit .chosen); under = hit .above }
 
-  struck-covered : (v : ℕ) → struck p d v ≡ true → (present d v ≡ true → Covered p d v → ⊥) → ⊥
-  unfolding struck
-  struck-covered v e free = both (present d v) (hits p (up (d .rows) v)) e (λ here q. free here (hits-covered v here q))
-
-  covered-struck : (v : ℕ) → present d v ≡ true → Covered p d v → struck p d v ≡ true
-  unfolding struck
-  covered-struck v here c = rw (here, covered-hits v (present-used d v here) c)
-
   pub deleted-by : DeletedBy p d (deleted p d)
-  deleted-by = record {
-    rows = deleted-rows p d;
-    used = deleted-used p d;
-    removed = λ v here c. deleted-mark p d v (present-used d v here) ∙ rw (covered-struck v here c);
-    others = λ v free. others v free (decLt v (d .used));
-  }
-    where
-      same : (v : ℕ) (b : Bool) → (b ≡ true → ⊥) → cond b 1 (mark d v) ≡ mark d v
-      same v true f = absurd (f refl)
-      same v false f = refl
+  unfolding struck
+  deleted-by =
+      removed-at (Covered p d) (λ v. hits p (up (d .rows) v)) (deleted-rows p d) (deleted-used p d) (deleted-mark p d) (deleted-behind p d)
+      (λ v here. (hits-covered v here, covered-hits v (present-used d v here)))
 
-      others : (v : ℕ) → (present d v ≡ true → Covered p d v → ⊥) → Dec (v < d .used) → mark (deleted p d) v ≡ mark d v
-      others v free (no h) = deleted-behind p d v (omega arith)
-      others v free (yes h) = deleted-mark p d v h ∙ same v (struck p d v) (λ e. struck-covered v e free)
+-- deletes at all of these remove what one of them covers that is accepted
+module _ (ps : List (List ℕ)) (d : Doc) (accepted : Accepted d) where
+  covered-any : (v : ℕ) → v < d .used → CoveredByOne ps d v → anyHits ps (up (d .rows) v) ≡ true
+  covered-any v h c =
+      hit-any (up (d .rows) v) (c .at) (sym (own-check (c .pattern) accepted) ∙ c .accepted)
+      (covered-hits (c .pattern) d (delete-pattern (c .pattern) d (c .accepted)) (accepted .sound) v h (c .covers))
+
+  any-covered : (v : ℕ) → present d v ≡ true → anyHits ps (up (d .rows) v) ≡ true → CoveredByOne ps d v
+  any-covered v here e =
+      let by = any-hit ps (up (d .rows) v) e in
+      let fine = own-check (by .pattern) accepted ∙ by .fine in
+      record {
+        place = by .place;
+        pattern = by .pattern;
+        at = by .at;
+        accepted = fine;
+        covers = hits-covered (by .pattern) d (delete-pattern (by .pattern) d fine) (accepted .sound) v here (by .hit);
+      }
+
+  pub all-deleted-by : AllDeletedBy ps d (doc (d .rows) (together ps d) (d .used))
+  all-deleted-by =
+      removed-at (CoveredByOne ps d) (λ v. anyHits ps (up (d .rows) v)) refl refl (together-mark ps d) (together-behind ps d)
+      (λ v here. (any-covered v here, covered-any v (present-used d v here)))
 
 -- the points of an insert: each is selected, each selected node is one of them, and they rise
 module _ (p x : List ℕ) (d : Doc) (pattern : Pattern p) (tree : Sound (bare x)) (sound : Sound d) where

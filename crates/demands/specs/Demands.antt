@@ -3,6 +3,7 @@
 --   DemandOne     each call's refusals, by its order of checks
 --   DemandTwo     the verdict and its witness; reading, deleting and inserting, by embeddings
 --   DemandThree   the plan; a batch run call by call, in any order that keeps the plan
+--   EitherOrder   deletes one after another, in any order
 --   Besides       what else the documents say of the calls: deep verdicts, plans, the two readings, the walker, patterns as text,
 --                 what stays, the program's two numbers, P1 to P15
 --
@@ -132,6 +133,36 @@ pub record DemandThree : Type 0 where
   pub moved : Plan example (0 ∷ 0 ∷ []) (1 ∷ 0 ∷ []) (planned.Frames 2) × Keeps (1 ∷ 0 ∷ []) (batchOf example) (1 ∷ 0 ∷ [])
   pub runs : (b : List (Frame (List ℕ) Update)) (o : List ℕ) (d : Doc) → ((p k : ℕ) → At o p k → k < length b) → Runs b o d
   pub calls : (b : List (Frame (List ℕ) Update)) (o : List ℕ) (d last : Doc) (calls : List Called) → Run b o d calls last → (i k : ℕ) → At o i k → Has calls i k
+
+-- Deletes in either order: on a document that meets no refusal, each called by its promise on the marks that the one before it left
+pub record EitherOrder : Type 0 where
+  -- two accepted deletes: neither second one is refused; in either order they leave the same marks, and the two counts together are the same
+  pub second : (p q : List ℕ) (d : Doc) → Bits16 (d .rows) → deleteCheck p d ≡ Fine → deleteCheck q d ≡ Fine → (x y : Deleted) (last : List ℕ) →
+      Deletes (p ∷ q ∷ []) d (x ∷ y ∷ []) last → deleteRefusal y ≡ Fine
+  pub marks : (p q : List ℕ) (d : Doc) → Bits16 (d .rows) → deleteCheck p d ≡ Fine → deleteCheck q d ≡ Fine → (one other : List Deleted) (last end : List ℕ) →
+      Deletes (p ∷ q ∷ []) d one last → Deletes (q ∷ p ∷ []) d other end → last ≡ end
+  pub counts : (p q : List ℕ) (d : Doc) → Bits16 (d .rows) → (i j k l : ℕ) (last end : List ℕ) →
+      Deletes (p ∷ q ∷ []) d (deleted.Removed i ∷ deleted.Removed j ∷ []) last → Deletes (q ∷ p ∷ []) d (deleted.Removed k ∷ deleted.Removed l ∷ []) end → i + j ≡ k + l
+  -- the same delete twice leaves what it leaves once, and reports 0 the second time
+  pub twice : (p : List ℕ) (d : Doc) → Bits16 (d .rows) → (n : ℕ) (answers : List Deleted) (once last : List ℕ) →
+      Deletes (p ∷ []) d (deleted.Removed n ∷ []) once → Deletes (p ∷ p ∷ []) d answers last → (last ≡ once) × (answers ≡ deleted.Removed n ∷ deleted.Removed 0 ∷ [])
+  -- each count alone need not be the same: on the chain a, b, c a delete at a/b and then one at a//c remove 2 nodes and 0, the other way round 1 and 1
+  pub above-first : Deletes (a/b ∷ a//c ∷ []) abc (deleted.Removed 2 ∷ deleted.Removed 0 ∷ []) (0 ∷ 1 ∷ 1 ∷ [])
+  pub below-first : Deletes (a//c ∷ a/b ∷ []) abc (deleted.Removed 1 ∷ deleted.Removed 1 ∷ []) (0 ∷ 1 ∷ 1 ∷ [])
+  pub not-each : ((p q : List ℕ) (d : Doc) (i j k l : ℕ) (last end : List ℕ) →
+      Deletes (p ∷ q ∷ []) d (deleted.Removed i ∷ deleted.Removed j ∷ []) last → Deletes (q ∷ p ∷ []) d (deleted.Removed k ∷ deleted.Removed l ∷ []) end → i ≡ l) → ⊥
+  -- any number of deletes, refused ones among them: each is refused as it is on the first document; what is removed is exactly what one that is accepted covers
+  -- there; present before equals present after the last plus the counts together; so in every order they leave the same marks and remove the same number together
+  pub refusals : (ps : List (List ℕ)) (d : Doc) → Bits16 (d .rows) → documentCheck d ≡ Fine → (answers : List Deleted) (last : List ℕ) → Deletes ps d answers last →
+      map deleteRefusal answers ≡ map (λ p. deleteCheck p d) ps
+  pub removed : (ps : List (List ℕ)) (d : Doc) → Bits16 (d .rows) → documentCheck d ≡ Fine → (answers : List Deleted) (last : List ℕ) → Deletes ps d answers last →
+      AllDeletedBy ps d (doc (d .rows) last (d .used))
+  pub removals : (ps : List (List ℕ)) (d : Doc) (answers : List Deleted) (last : List ℕ) → Deletes ps d answers last →
+      count (present d) (d .used) ≡ count (present (doc (d .rows) last (d .used))) (d .used) + total answers
+  pub orders : (ps qs : List (List ℕ)) → Perm ps qs → (d : Doc) → Bits16 (d .rows) → documentCheck d ≡ Fine → (one other : List Deleted) (last end : List ℕ) →
+      Deletes ps d one last → Deletes qs d other end → (last ≡ end) × (total one ≡ total other)
+  -- there are such calls
+  pub calls : (ps : List (List ℕ)) (d : Doc) → CalledInTurn ps d
 
 -- Besides: what else the documents say of the calls
 pub record Besides : Type 0 where

@@ -6,7 +6,10 @@ use mathlib.Core.List.{List}
 use lib.ListN.{length, getD}
 use Rattle.tables.specs.Words.{nodes, parent, tag}
 use Rattle.tables.specs.Documents.{Doc, mark, present}
+use Rattle.tables.specs.declared.refusal.Checked.the-variants.{Fine}
 use Rattle.selection.specs.Embeddings.{AtOrBelow, Selects}
+use Rattle.doc_updates.specs.Updating.{deleteCheck}
+use Rattle.order.specs.Frames.{At}
 
 -- v is a node that p selects, or lies below one
 pub record Covered (p : List ℕ) (d : Doc) (v : ℕ) : Type 0 where
@@ -14,12 +17,27 @@ pub record Covered (p : List ℕ) (d : Doc) (v : ℕ) : Type 0 where
   pub selects : Selects p d point
   pub under : AtOrBelow (d .rows) point v
 
--- e is d after a delete at p: the present nodes that p covers are marked as removed, and nothing else changes
-pub record DeletedBy (p : List ℕ) (d e : Doc) : Type 0 where
+-- e is d with these of its present nodes marked as removed, and nothing else changed
+pub record RemovedAt (Gone : ℕ → Type 0) (d e : Doc) : Type 0 where
   pub rows : e .rows ≡ d .rows
   pub used : e .used ≡ d .used
-  pub removed : (v : ℕ) → present d v ≡ true → Covered p d v → mark e v ≡ 1
-  pub others : (v : ℕ) → (present d v ≡ true → Covered p d v → ⊥) → mark e v ≡ mark d v
+  pub removed : (v : ℕ) → present d v ≡ true → Gone v → mark e v ≡ 1
+  pub others : (v : ℕ) → (present d v ≡ true → Gone v → ⊥) → mark e v ≡ mark d v
+
+-- e is d after a delete at p: what p covers is removed
+abbrev pub DeletedBy : List ℕ → Doc → Doc → Type 0
+DeletedBy p d e = RemovedAt (Covered p d) d e
+
+-- e is d after deletes at all of these, in whatever order: what one of them covers that is accepted on d is removed
+pub record CoveredByOne (ps : List (List ℕ)) (d : Doc) (v : ℕ) : Type 0 where
+  pub place : ℕ
+  pub pattern : List ℕ
+  pub at : At ps place pattern
+  pub accepted : deleteCheck pattern d ≡ Fine
+  pub covers : Covered pattern d v
+
+abbrev pub AllDeletedBy : List (List ℕ) → Doc → Doc → Type 0
+AllDeletedBy ps d e = RemovedAt (CoveredByOne ps d) d e
 
 -- e is d after an insert of x at p, with n copies
 pub record InsertedBy (p x : List ℕ) (d e : Doc) (n : ℕ) : Type 0 where

@@ -17,9 +17,10 @@ use Rattle.tables.proofs.Accepted.{held, then-first, then-second}
 use Rattle.tables.proofs.Soundness.{accepted-pattern}
 use Rattle.selection.specs.Operations.{fits}
 use Rattle.selection.proofs.Inserting.{Room, fits-room}
+use Rattle.outcomes.specs.declared.updates.Deleted.{Deleted}
 use Rattle.outcomes.specs.declared.updates.Deleted.the-variants.{Removed, Refused as NotDeleted}
 use Rattle.outcomes.specs.declared.updates.Inserted.the-variants.{Copied, Refused as NotInserted}
-use Rattle.doc_updates.specs.Updating.{deleteCheck, insertCheck, deleteAnswer, insertAnswer}
+use Rattle.doc_updates.specs.Updating.{deleteCheck, insertCheck, deleteAnswer, insertAnswer, deleteRefusal}
 use Rattle.doc_updates.specs.Asking.{tablesCheck}
 use Rattle.doc_updates.proofs.Asking.{then-assoc}
 
@@ -105,3 +106,7 @@ removed-fine (Refused r) a e = let z : _≡_ {A = ℕ} 0 1 = cc in absurd (omega
 pub kept-told : (c : Checked) (a : ℕ) {r : Refusal} → NotDeleted r ≡ deleteAnswer c a → c ≡ Refused r
 kept-told Fine a e = let z : _≡_ {A = ℕ} 0 1 = cc in absurd (omega arith)
 kept-told (Refused r) a e = cc
+
+pub delete-tells : (c : Checked) (a : ℕ) {answer : Deleted} → answer ≡ deleteAnswer c a → deleteRefusal answer ≡ c
+delete-tells Fine a e = rw e
+delete-tells (Refused r) a e = rw e

@@ -30,6 +30,11 @@ abbrev pub deleteAnswer : Checked → ℕ → Deleted
 deleteAnswer Fine n = Removed n
 deleteAnswer (Refused r) n = NotDeleted r
 
+-- and back: the refusal of an answer, fine where it has none
+abbrev pub deleteRefusal : Deleted → Checked
+deleteRefusal (Removed n) = Fine
+deleteRefusal (NotDeleted r) = Refused r
+
 -- the refusal, or the number of copies and the new used count
 abbrev pub insertAnswer : Checked → ℕ → ℕ → Inserted
 insertAnswer Fine n used = Copied n used

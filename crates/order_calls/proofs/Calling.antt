@@ -6,13 +6,13 @@ use mathlib.Core.List.{List}
 use mathlib.Core.Logic.{_⊎_, inl, inr, _↔_}
 use native.Mathlib.Nat.{le-trans}
 use native.Mathlib.Omega.{arith}
-use borrow.Author.Tests.{lt-ltb, le-leb}
+use borrow.Author.Tests.{lt-ltb}
 use lib.ListN.{length, replicate, length-replicate}
 use Rattle.tables.specs.Limits.{usedLimit}
 use Rattle.tables.specs.Words.{steps, nodes}
 use Rattle.tables.specs.Patterns.{Pattern}
 use Rattle.tables.specs.Documents.{Doc, doc}
-use Rattle.tables.specs.Checks.{test, refuse, outputCheck}
+use Rattle.tables.specs.Checks.{test, refuse}
 use Rattle.tables.specs.declared.refusal.Checked.{Checked}
 use Rattle.tables.specs.declared.refusal.Checked.the-variants.{Fine, Refused}
 use Rattle.tables.proofs.Accepted.{never}
@@ -21,20 +21,21 @@ use Rattle.selection.specs.Embeddings.{Selects}
 use Rattle.selection.specs.Operations.{readRow, deleted, removed, inserted, copies, fits, stored}
 use Rattle.selection.proofs.Rows.{read-row}
 use Rattle.selection.proofs.Selecting.{selecting}
-use Rattle.selection.proofs.Inserting.{inserted-used, selected-used}
+use Rattle.selection.proofs.Inserting.{selected-used}
 use Rattle.check_read.specs.Readable.{readCheck}
 use Rattle.doc_updates.specs.Updating.{deleteCheck, insertCheck, deleteAnswer, insertAnswer, Delete, Insert}
+use Rattle.doc_updates.proofs.Accepted.{delete-tells}
 use Rattle.doc_updates.proofs.Asking.{never-short}
 use Rattle.doc_updates.proofs.Deletes.{delete-doc}
 use Rattle.doc_updates.proofs.Inserts.{insert-doc}
+use Rattle.doc_updates.proofs.Keeping.{Accepted}
 use Rattle.outcomes.specs.declared.updates.Deleted.{Deleted}
 use Rattle.outcomes.specs.declared.updates.Inserted.{Inserted}
 use Rattle.conflict.specs.Conflict.{Update, delete, insert}
 use Rattle.order.specs.Frames.{Frame, read, update}
 use Rattle.order.specs.Model.{act}
-use Rattle.order_calls.specs.Calls.{Reply, reading, deleting, inserting, usedAfter, Call, reads, deletes, inserts, refusalOf, NoRoom, Works, Says}
+use Rattle.order_calls.specs.Calls.{Reply, reading, inserting, usedAfter, Call, reads, deletes, inserts, refusalOf, NoRoom, Works, Says}
 use Rattle.order_calls.specs.Running.{running}
-use Rattle.order_calls.proofs.Accepting.{Accepted}
 use Rattle.order_calls.proofs.Callable.{Callable}
 
 -- the checks of a call
@@ -49,10 +50,6 @@ module _ (p : List ℕ) (d : Doc) (accepted : Accepted d) where
   insert-check : (x : List ℕ) → Callable (update (insert p x)) → insertCheck p x d ≡ test (fits p x d) (refuse 11 4 0)
   unfolding insertCheck
   insert-check x c = rw (accepted .fine, c .0, c .1)
-
-delete-tells : (c : Checked) (n : ℕ) {answer : Deleted} → answer ≡ deleteAnswer c n → refusalOf (deleting answer) ≡ c
-delete-tells Fine n e = rw e
-delete-tells (Refused why) n e = rw e
 
 -- a delete leaves the deleted document
 delete-leaves : {p marks : List ℕ} {d : Doc} {answer : Deleted} → Delete p d (d .marks) marks answer → deleteCheck p d ≡ Fine → doc (d .rows) marks (d .used) ≡ deleted p d

@@ -8,6 +8,7 @@ use native.Mathlib.Omega.{arith}
 use lib.ListN.{length}
 use Rattle.tables.specs.Documents.{Doc}
 use Rattle.selection.specs.Operations.{fits}
+use Rattle.doc_updates.proofs.Keeping.{Accepted}
 use Rattle.conflict.specs.Conflict.{Update, insert}
 use Rattle.order.specs.Model.{Fits, act, ran, lastDoc, met}
 use Rattle.order.specs.Frames.{Frame, read, update, At, here, there}
@@ -16,7 +17,7 @@ use Rattle.order.proofs.Places.{at-one, by-kind}
 use Rattle.order.proofs.Stages.{ran-at, met-cases}
 use Rattle.order_calls.specs.Calls.{Reply, Call, Called, called, Run, over, next, Has, Runs, NoRoom, Works}
 use Rattle.order_calls.specs.Running.{running}
-use Rattle.order_calls.proofs.Accepting.{Accepted, updated-accepted}
+use Rattle.order_calls.proofs.Accepting.{updated-accepted}
 use Rattle.order_calls.proofs.Callable.{Callable}
 use Rattle.order_calls.proofs.Calling.{call-leaves, call-works, no-room-exactly, answers}
 

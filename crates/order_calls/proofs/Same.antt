@@ -9,6 +9,7 @@ use Rattle.tables.specs.Documents.{Doc}
 use Rattle.tables.specs.declared.refusal.Checked.{Checked}
 use Rattle.selection.specs.Embeddings.{Selects}
 use Rattle.selection.proofs.Selecting.{selecting}
+use Rattle.doc_updates.proofs.Keeping.{Accepted}
 use Rattle.conflict.specs.Conflict.{Update, Conflict}
 use Rattle.order.specs.Model.{Fits, Order, met, Same}
 use Rattle.order.specs.Frames.{Frame, read, update, At}
@@ -17,7 +18,6 @@ use Rattle.order.specs.Fitting.{FitFrame, DecidedBy}
 use Rattle.order.proofs.Own.{own-order}
 use Rattle.order_calls.specs.Calls.{Reply, reading, Call, Called, called, Run, NoRoom, Says, SameRuns}
 use Rattle.order_calls.specs.Running.{running}
-use Rattle.order_calls.proofs.Accepting.{Accepted}
 use Rattle.order_calls.proofs.Callable.{Callable}
 use Rattle.order_calls.proofs.Calling.{row-says, update-one}
 use Rattle.order_calls.proofs.Demand.{wider-same}

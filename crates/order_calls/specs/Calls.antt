@@ -11,9 +11,8 @@ use Rattle.tables.specs.declared.refusal.Checked.{Checked}
 use Rattle.tables.specs.declared.refusal.Checked.the-variants.{Fine, Refused}
 use Rattle.selection.specs.Embeddings.{Selects}
 use Rattle.doc_read.specs.Reading.{Read}
-use Rattle.doc_updates.specs.Updating.{Delete, Insert}
+use Rattle.doc_updates.specs.Updating.{deleteRefusal, Delete, Insert}
 use Rattle.outcomes.specs.declared.updates.Deleted.{Deleted}
-use Rattle.outcomes.specs.declared.updates.Deleted.the-variants as deleted
 use Rattle.outcomes.specs.declared.updates.Inserted.{Inserted}
 use Rattle.outcomes.specs.declared.updates.Inserted.the-variants as inserted
 use Rattle.conflict.specs.Conflict.{Update, delete, insert}
@@ -65,8 +64,7 @@ pub record Runs (b : List (Frame (List ℕ) Update)) (o : List ℕ) (d : Doc) : 
 -- the refusal of an answer, fine where it has none
 abbrev pub refusalOf : Reply → Checked
 refusalOf (reading answer row) = answer
-refusalOf (deleting (deleted.Removed n)) = Fine
-refusalOf (deleting (deleted.Refused why)) = Refused why
+refusalOf (deleting answer) = deleteRefusal answer
 refusalOf (inserting (inserted.Copied copies used)) = Fine
 refusalOf (inserting (inserted.Refused why)) = Refused why
 

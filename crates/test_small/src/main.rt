@@ -1,6 +1,7 @@
-// Everything small over the proved library, by the functions that other languages link: the five tables that the second program prints too. `stdout` holds what that program printed.
+// Everything small over the proved library, by the functions that other languages link: the six tables that the second program prints too. `stdout` holds what that program printed.
 mod damage;
 mod digest;
+mod either_order;
 mod numbering;
 mod paired;
 mod pairs;
@@ -21,4 +22,5 @@ fn main() {
     damage::table();
     plans::table();
     texts::table();
+    either_order::table();
 }

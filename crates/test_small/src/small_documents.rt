@@ -19,10 +19,10 @@ use sloefertand::operations::sloefertand_insert;
 use sloefertand::operations::sloefertand_read;
 
 // Nodes with no use yet behind a document's.
-const FREE: usize = 4;
+pub(crate) const FREE: usize = 4;
 
 // The most nodes that a document has room for.
-const ROOM: usize = 8;
+pub(crate) const ROOM: usize = 8;
 
 // The read's bytes of the used nodes.
 fn after_read(p: &[u16], rows: &[u16], marks: &[u8], used: usize, d: u64) -> u64 {
@@ -189,10 +189,9 @@ fn mark(m: usize, v: usize, used: usize) -> u8 {
     (m % 2) as u8
 }
 
-// A marking, if it is sound.
-fn marked(rows: [u16; 16], m: usize, used: usize) {
-    let table = rows;
-    let marks = [
+// Marking m.
+pub(crate) fn marking(m: usize, used: usize) -> [u8; ROOM] {
+    [
         mark(m, 0, used),
         mark(m, 1, used),
         mark(m, 2, used),
@@ -201,7 +200,13 @@ fn marked(rows: [u16; 16], m: usize, used: usize) {
         9,
         9,
         9,
-    ];
+    ]
+}
+
+// A marking, if it is sound.
+fn marked(rows: [u16; 16], m: usize, used: usize) {
+    let table = rows;
+    let marks = marking(m, used);
     let a = sloefertand_check_document(&table, &marks, used);
     if a.refusal == 0 {
         line(rows, marks, used);
@@ -218,7 +223,7 @@ fn markings(rows: [u16; 16], used: usize, count: usize) {
 }
 
 // How many markings n nodes have.
-fn marking_count(n: usize) -> usize {
+pub(crate) fn marking_count(n: usize) -> usize {
     if n == 1 {
         return 2;
     }

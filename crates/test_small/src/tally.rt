@@ -24,7 +24,7 @@ pub(crate) fn nothing() -> Tally {
 // One more where it is so.
 pub(crate) fn one_more(n: usize, so: bool) -> usize {
     if so {
-        return n % 65536 + 1;
+        return n % 16777216 + 1;
     }
     n
 }

@@ -1,11 +1,11 @@
 -- The names that the page of the demands cites: where each is defined and, of a promise, which function makes it. An exported function, sloefertand_ and the
 -- call's name, promises the same, by the numbers of the answer.
 
--- numbers, lists and logic, of the kit's library
+-- numbers, lists and logic, of the kit's library; Perm xs ys: ys has what xs has, in some order
 pub use Prim.Native.Nat.{ℕ, _+_, _*_, _-_, _/_, _<_, _≤_}
 pub use mathlib.Core.Path.{_≡_}
 pub use mathlib.Core.Bool.{true, false}
-pub use mathlib.Core.List.{List, [], _∷_}
+pub use mathlib.Core.List.{List, [], _∷_, map, Perm}
 pub use mathlib.Core.Logic.{_↔_}
 pub use lib.ListN.{length, getD, take, drop}
 -- words of tables, documents, refusals; the checks of patterns, trees and documents are promised by the functions of those names
@@ -32,10 +32,11 @@ pub use Rattle.check_plain.specs.Bare.{plainCheck}
 pub use Rattle.doc_plain.specs.Plain.{PlainRead}
 pub use Rattle.check_read.specs.Readable.{readCheck}
 pub use Rattle.doc_read.specs.Reading.{Read}
-pub use Rattle.doc_updates.specs.Updating.{deleteCheck, insertCheck, Delete, Insert}
+pub use Rattle.doc_updates.specs.Updating.{deleteCheck, insertCheck, deleteRefusal, Delete, Insert}
+pub use Rattle.outcomes.specs.declared.updates.Deleted.{Deleted}
 pub use Rattle.outcomes.specs.declared.updates.Deleted.the-variants as deleted
 pub use Rattle.outcomes.specs.declared.updates.Inserted.the-variants as inserted
-pub use Rattle.demands.specs.Updates.{DeletedBy, InsertedBy}
+pub use Rattle.demands.specs.Updates.{DeletedBy, AllDeletedBy, InsertedBy}
 -- verdicts: NodeVerdict is promised by delete_verdict and insert_verdict, DeepVerdict by deep_delete_verdict and deep_insert_verdict
 pub use Rattle.conflict.specs.Conflict.{Update, delete, insert, pattern, after as after-update, UpdateBits, Witness, Conflict, Deep, SmallestWitness, Chain}
 pub use Rattle.check_verdict.specs.Order.{verdictCheck, deepCheck}
@@ -57,6 +58,8 @@ pub use Rattle.outcomes.specs.declared.plans.Planned.the-variants as planned
 -- orders of a batch, and a batch run call by call: when two runs give the same
 pub use Rattle.order.specs.Order.{Stands, Before, own}
 pub use Rattle.order_calls.specs.Calls.{Reply, Called, called, Run, Has, Runs, NoRoom, Works, SameRuns}
+-- deletes called one after another, each call by Delete
+pub use Rattle.order_deletes.specs.Deletes.{Deletes, total, CalledInTurn, abc, a/b, a//c}
 -- lines: ReadAs is promised by read_line, WrittenAs by write_line
 pub use Rattle.text_line_in.specs.Lines.{lineCheck, ReadAs}
 pub use Rattle.outcomes.specs.declared.texts.Parsed.the-variants as parsed
