@@ -34,7 +34,7 @@ use Rattle.outcomes.specs.declared.verdicts.Verdict.{Verdict}
 use Rattle.outcomes.specs.declared.verdicts.Verdict.the-variants as verdict
 use Rattle.outcomes.specs.declared.verdicts.Deeply.{Deeply}
 use Rattle.outcomes.specs.declared.verdicts.Deeply.the-variants as deep
-use Rattle.marked.proofs.Marked.{marked}
+use Rattle.marked.proofs.Marked.{small, words-of, marked}
 use Rattle.order.proofs.Own.{own-order}
 use Rattle.order.proofs.Deciding.{conflicting, conflicting-decides}
 use Rattle.batch_check.specs.Batches.{batchOf}
@@ -43,8 +43,9 @@ use Rattle.batch_plan.proofs.Laws.{same-slot}
 use Rattle.order_calls.proofs.Callable.{accepted-callable}
 use Rattle.order_calls.proofs.Running.{run-has, run-works, run-room, run-some}
 use Rattle.order_calls.proofs.Same.{wider-runs}
+use Rattle.order_deletes.specs.Deletes.{abc}
 use Rattle.order_deletes.proofs.Calls.{calls-marks, calls-count, calls-refusals, calls-some}
-use Rattle.order_deletes.proofs.Orders.{orders-marks, orders-total, either-marks, either-total, second-works, first-fine, again}
+use Rattle.order_deletes.proofs.Orders.{orders-marks, orders-total, either-marks, either-total, second-works, first-fine, made-before, again}
 use Rattle.order_deletes.proofs.Example.{above-first, below-first, not-each}
 use Rattle.batch_walk.proofs.Laws.{refused-stays, over-stays}
 use Rattle.batch_walk.proofs.Walk.{parts-join, walk-frames, walk-over, walk-whole, walk-before, walk-refused}
@@ -166,15 +167,17 @@ accepted-first : (p : List ℕ) (d : Doc) → Bits16 (d .rows) → deleteCheck p
 accepted-first p d words fine = accepted-words words (delete-document p d fine)
 
 pub either-order : EitherOrder
+unfolding small
 either-order =
     record {
       second = λ p q d words first other x y last. second-works (accepted-first p d words first) other;
       marks = λ p q d words first other x y last end. either-marks (accepted-first p d words first);
       counts = λ p q d words i j k l last end calls. either-total (accepted-first p d words (first-fine calls)) calls;
       twice = λ p d words n answers once last calls. again (accepted-first p d words (first-fine calls)) calls;
+      made-before = λ ps d words answers last calls k p at fine after answer. made-before (accepted-first p d words fine) calls at fine;
       above-first = above-first;
       below-first = below-first;
-      not-each = not-each;
+      not-each = not-each {Kind = λ d. Bits16 (d .rows)} (words-of (abc .rows) refl);
       refusals = λ ps d words fine answers last. calls-refusals (accepted-words words fine);
       removed = λ ps d words fine answers last calls.
           let accepted = accepted-words words fine in

@@ -143,13 +143,17 @@ pub record EitherOrder : Type 0 where
       Deletes (p ∷ q ∷ []) d one last → Deletes (q ∷ p ∷ []) d other end → last ≡ end
   pub counts : (p q : List ℕ) (d : Doc) → Bits16 (d .rows) → (i j k l : ℕ) (last end : List ℕ) →
       Deletes (p ∷ q ∷ []) d (deleted.Removed i ∷ deleted.Removed j ∷ []) last → Deletes (q ∷ p ∷ []) d (deleted.Removed k ∷ deleted.Removed l ∷ []) end → i + j ≡ k + l
-  -- the same delete twice leaves what it leaves once, and reports 0 the second time
+  -- the same delete twice leaves what it leaves once, and reports 0 the second time; one that was made before, whatever came between, changes nothing and reports 0
   pub twice : (p : List ℕ) (d : Doc) → Bits16 (d .rows) → (n : ℕ) (answers : List Deleted) (once last : List ℕ) →
       Deletes (p ∷ []) d (deleted.Removed n ∷ []) once → Deletes (p ∷ p ∷ []) d answers last → (last ≡ once) × (answers ≡ deleted.Removed n ∷ deleted.Removed 0 ∷ [])
-  -- each count alone need not be the same: on the chain a, b, c a delete at a/b and then one at a//c remove 2 nodes and 0, the other way round 1 and 1
+  pub made-before : (ps : List (List ℕ)) (d : Doc) → Bits16 (d .rows) → (answers : List Deleted) (last : List ℕ) → Deletes ps d answers last →
+      (k : ℕ) (p : List ℕ) → At ps k p → deleteCheck p d ≡ Fine →
+      (after : List ℕ) (answer : Deleted) → Delete p (doc (d .rows) last (d .used)) last after answer → (after ≡ last) × (answer ≡ deleted.Removed 0)
+  -- each count alone need not be the same: on the chain a, b, c a delete at a/b and then one at a//c remove 2 nodes and 0, the other way round 1 and 1; so a law that
+  -- says it of all that `counts` speaks of is wrong
   pub above-first : Deletes (a/b ∷ a//c ∷ []) abc (deleted.Removed 2 ∷ deleted.Removed 0 ∷ []) (0 ∷ 1 ∷ 1 ∷ [])
   pub below-first : Deletes (a//c ∷ a/b ∷ []) abc (deleted.Removed 1 ∷ deleted.Removed 1 ∷ []) (0 ∷ 1 ∷ 1 ∷ [])
-  pub not-each : ((p q : List ℕ) (d : Doc) (i j k l : ℕ) (last end : List ℕ) →
+  pub not-each : ((p q : List ℕ) (d : Doc) → Bits16 (d .rows) → (i j k l : ℕ) (last end : List ℕ) →
       Deletes (p ∷ q ∷ []) d (deleted.Removed i ∷ deleted.Removed j ∷ []) last → Deletes (q ∷ p ∷ []) d (deleted.Removed k ∷ deleted.Removed l ∷ []) end → i ≡ l) → ⊥
   -- any number of deletes, refused ones among them: each is refused as it is on the first document; what is removed is exactly what one that is accepted covers
   -- there; present before equals present after the last plus the counts together; so in every order they leave the same marks and remove the same number together

@@ -1,7 +1,7 @@
 -- Deletes called one after another: each is refused as it is on the first document, they leave the marks of all together, and count what they remove.
 use Prim.Native.Nat.{ℕ, _+_}
 use mathlib.Core.Path.{_≡_, refl, sym, _∙_, ap}
-use mathlib.Core.List.{List, [], _∷_, map}
+use mathlib.Core.List.{List, [], _∷_, _++_, map}
 use native.Mathlib.Omega.{arith}
 use Rattle.tables.specs.Documents.{Doc, doc, present}
 use Rattle.tables.proofs.Soundness.{used-facts}
@@ -59,6 +59,16 @@ calls-refusals {ps} {d} accepted calls = calls-own accepted calls ∙ own ps
     own : (qs : List (List ℕ)) → map ownCheck qs ≡ map (λ p. deleteCheck p d) qs
     own [] = refl
     own (q ∷ qs) = rw (own-check q accepted, own qs)
+
+-- the last leaves an accepted document too, and others may follow it
+pub calls-accepted : {ps : List (List ℕ)} {d : Doc} {answers : List Deleted} {last : List ℕ} → Accepted d → Deletes ps d answers last → Accepted (doc (d .rows) last (d .used))
+calls-accepted accepted over = accepted
+calls-accepted accepted (next h rest) = calls-accepted (call-accepted accepted h) rest
+
+pub calls-then : {ps qs : List (List ℕ)} {d : Doc} {answers others : List Deleted} {last end : List ℕ} →
+    Deletes ps d answers last → Deletes qs (doc (d .rows) last (d .used)) others end → Deletes (ps ++ qs) d (answers ++ others) end
+calls-then over more = more
+calls-then (next h rest) more = next h (calls-then rest more)
 
 -- there always are such calls, and they answer in one way
 pub calls-some : (ps : List (List ℕ)) (d : Doc) → CalledInTurn ps d

@@ -20,7 +20,8 @@ pub below-first : Deletes (a//c ∷ a/b ∷ []) abc (Removed 1 ∷ Removed 1 ∷
 unfolding deleteCheck documentCheck usedCheck usedRight each nodeCheck parentRight markCheck markRight patternCheck sizeCheck axisCheck axisRight deleted removed struck hits run runs up ups tab count
 below-first = next (record { answered = refl; marks = refl }) (next (record { answered = refl; marks = refl }) over)
 
--- so it is no law that a delete counts the same in either order
-pub not-each : ((p q : List ℕ) (d : Doc) (i j k l : ℕ) (last end : List ℕ) →
+-- so it is no law that a delete counts the same in either order, of no kind of documents that this one is of
+pub not-each : {Kind : Doc → Type 0} → Kind abc →
+    ((p q : List ℕ) (d : Doc) → Kind d → (i j k l : ℕ) (last end : List ℕ) →
     Deletes (p ∷ q ∷ []) d (Removed i ∷ Removed j ∷ []) last → Deletes (q ∷ p ∷ []) d (Removed k ∷ Removed l ∷ []) end → i ≡ l) → ⊥
-not-each law = let e : _≡_ {A = ℕ} 2 1 = law a/b a//c abc 2 0 1 1 (0 ∷ 1 ∷ 1 ∷ []) (0 ∷ 1 ∷ 1 ∷ []) above-first below-first in absurd (omega arith)
+not-each kind law = let e : _≡_ {A = ℕ} 2 1 = law a/b a//c abc kind 2 0 1 1 (0 ∷ 1 ∷ 1 ∷ []) (0 ∷ 1 ∷ 1 ∷ []) above-first below-first in absurd (omega arith)

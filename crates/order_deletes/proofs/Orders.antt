@@ -1,21 +1,22 @@
 -- In every order deletes leave the same marks and remove the same number together; one that is made again finds nothing left.
 use Prim.Native.Nat.{ℕ, _+_}
-use mathlib.Core.Path.{_≡_, refl, sym, _∙_}
+use mathlib.Core.Path.{_≡_, sym, _∙_, ap, subst}
 use mathlib.Core.List.{List, [], _∷_, Perm, Perm·swap}
 use native.Mathlib.Omega.{arith}
 use Rattle.tables.specs.Documents.{Doc, doc, present}
 use Rattle.tables.specs.declared.refusal.Checked.the-variants.{Fine}
-use Rattle.tables.proofs.Accepted.{never}
 use Rattle.selection.specs.Lists.{count}
+use Rattle.selection.specs.Operations.{removed}
 use Rattle.outcomes.specs.declared.updates.Deleted.{Deleted}
-use Rattle.outcomes.specs.declared.updates.Deleted.the-variants.{Removed, Refused as NotDeleted}
-use Rattle.doc_updates.specs.Updating.{deleteCheck, deleteRefusal}
+use Rattle.outcomes.specs.declared.updates.Deleted.the-variants.{Removed}
+use Rattle.doc_updates.specs.Updating.{deleteCheck, deleteRefusal, Delete}
 use Rattle.doc_updates.proofs.Settled.{delete-one}
-use Rattle.doc_updates.proofs.Deletes.{delete-fine}
+use Rattle.doc_updates.proofs.Deletes.{delete-fine, delete-count}
 use Rattle.doc_updates.proofs.Keeping.{Accepted}
+use Rattle.order.specs.Frames.{At, here}
 use Rattle.order_deletes.specs.Deletes.{Deletes, over, next, total}
 use Rattle.order_deletes.proofs.Together.{together-order, together-again}
-use Rattle.order_deletes.proofs.Calls.{calls-marks, calls-count, calls-refusals}
+use Rattle.order_deletes.proofs.Calls.{own-check, calls-marks, calls-count, calls-refusals, calls-accepted, calls-then}
 
 -- calls from one document that leave the same marks remove the same number together
 same-total : {ps qs : List (List ℕ)} {d : Doc} {one other : List Deleted} {last end : List ℕ} → last ≡ end → Deletes ps d one last → Deletes qs d other end → total one ≡ total other
@@ -49,21 +50,24 @@ pub first-fine : {p : List ℕ} {ps : List (List ℕ)} {d : Doc} {n : ℕ} {answ
     Deletes (p ∷ ps) d (Removed n ∷ answers) last → deleteCheck p d ≡ Fine
 first-fine {p} {d = d} (next h rest) = delete-fine p d h
 
--- what answers without a refusal tells a number
-told : (x : Deleted) → deleteRefusal x ≡ Fine → (n : ℕ) × (x ≡ Removed n)
-told (Removed n) e = (n, refl)
-told (NotDeleted why) e = never refl e
+-- one that was made before, whatever came between, leaves the marks as they are and tells 0
+pub made-before : {ps : List (List ℕ)} {d : Doc} {answers : List Deleted} {last : List ℕ} → Accepted d → Deletes ps d answers last →
+    {k : ℕ} {p : List ℕ} → At ps k p → deleteCheck p d ≡ Fine →
+    {after : List ℕ} {answer : Deleted} → Delete p (doc (d .rows) last (d .used)) last after answer → (after ≡ last) × (answer ≡ Removed 0)
+made-before {d = d} {last = last} accepted calls {p = p} at fine {after} {answer} h =
+    let left : after ≡ last = calls-marks accepted (calls-then calls (next h over)) ∙ together-again at d ∙ sym (calls-marks accepted calls) in
+    let e : Doc = doc (d .rows) last (d .used) in
+    let works : deleteCheck p e ≡ Fine = own-check p (calls-accepted accepted calls) ∙ sym (own-check p accepted) ∙ fine in
+    let told : answer ≡ Removed (removed p e) = rw works at (h .answered) in
+    let counted : count (present e) (d .used) ≡ count (present (doc (d .rows) after (d .used))) (d .used) + removed p e = delete-count p e (subst (Delete p e last after) told h) in
+    let same : count (present e) (d .used) ≡ count (present e) (d .used) + removed p e = rw left at counted in
+    let none : removed p e ≡ 0 = omega arith in
+    (left, told ∙ ap Removed none)
 
--- the same one again leaves what it left, and tells 0
+-- so the same one twice leaves what it leaves once
 pub again : {p once last : List ℕ} {d : Doc} {n : ℕ} {answers : List Deleted} → Accepted d →
     Deletes (p ∷ []) d (Removed n ∷ []) once → Deletes (p ∷ p ∷ []) d answers last → (last ≡ once) × (answers ≡ Removed n ∷ Removed 0 ∷ [])
-unfolding total
-again {p} {once} {last} {d} {n} accepted (next g over) (next {answer = x} h (next {answer = y} k over)) =
-    let calls : Deletes (p ∷ []) d (Removed n ∷ []) once = next g over in
-    let twice : Deletes (p ∷ p ∷ []) d (x ∷ y ∷ []) last = next h (next k over) in
-    let left : last ≡ once = calls-marks accepted twice ∙ together-again p d ∙ sym (calls-marks accepted calls) in
-    let first : x ≡ Removed n = sym (delete-one g h .0) in
-    let second = told y (second-works accepted (delete-fine p d g) twice) in
-    let counts : n + (second .0 + 0) ≡ n + 0 = rw (first, second .1) at (same-total left twice calls) in
-    let none : second .0 ≡ 0 = omega arith in
-    (left, rw (first, second .1, none))
+again {p} {d = d} accepted (next g over) (next h (next k over)) =
+    let first = delete-one h g in
+    let second = made-before accepted (next h over) here (delete-fine p d g) k in
+    (second .0 ∙ first .1, rw (first .0, second .1))

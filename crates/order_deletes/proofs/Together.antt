@@ -1,7 +1,7 @@
 -- A delete and then others is all of them together, and together they have no order.
 use Prim.Native.Nat.{ℕ, suc, _<_, _≤_}
-use mathlib.Core.Path.{_≡_, refl, _∙_, ap}
-use mathlib.Core.Bool.{Bool, true, false, _&&_, _||_, not, cond, and-false, or-true, false≢true, Bool-set}
+use mathlib.Core.Path.{_≡_, refl, sym, _∙_, ap}
+use mathlib.Core.Bool.{Bool, true, false, _&&_, _||_, not, cond, and-false, or-true, or-assoc, false≢true, Bool-set}
 use mathlib.Core.List.{List, [], _∷_, _++_, Perm, List·Permᴰ, List·Permᴰ·nil, List·Permᴰ·cons, List·Permᴰ·swap, List·Permᴰ·trans}
 use mathlib.Core.Logic.{_⊎_, inl, inr, ∥∥₁-elim}
 use lib.ListN.{length, drop, take-append-drop}
@@ -86,15 +86,6 @@ pub together-behind : (ps : List (List ℕ)) (d : Doc) (v : ℕ) → d .used ≤
 unfolding together markedAt
 together-behind ps d = getD-tab-behind (λ v. cond (present d v && anyHits ps (up (d .rows) v)) 1 (mark d v)) (d .used) (d .marks)
 
--- one of them twice is that one
-pub together-again : (p : List ℕ) (d : Doc) → together (p ∷ p ∷ []) d ≡ together (p ∷ []) d
-unfolding together anyHits
-together-again p d = marked-ext _ _ d (λ v l. ap (λ (b : Bool). present d v && b) (twice (whereFine (ownCheck p) (hits p (up (d .rows) v)) false)))
-  where
-    twice : (b : Bool) → (b || (b || false)) ≡ (b || false)
-    twice true = refl
-    twice false = refl
-
 -- what is hit, one of them hits that is not refused
 pub record HitBy (ps : List (List ℕ)) (w : List ℕ) : Type 0 where
   pub place : ℕ
@@ -119,3 +110,23 @@ pub hit-any : {ps : List (List ℕ)} {k : ℕ} {p : List ℕ} (w : List ℕ) →
 unfolding anyHits
 hit-any w here fine hit = rw (fine, hit)
 hit-any w (there {c = c} at) fine hit = rw (hit-any w at fine hit) (or-true (whereFine (ownCheck c) (hits c w) false))
+
+-- some and then others hit what one of them all hits
+hits-both : (ps qs : List (List ℕ)) (w : List ℕ) → anyHits (ps ++ qs) w ≡ (anyHits ps w || anyHits qs w)
+unfolding anyHits
+hits-both [] qs w = refl
+hits-both (p ∷ ps) qs w = rw (hits-both ps qs w) (sym (or-assoc (whereFine (ownCheck p) (hits p w) false) (anyHits ps w) (anyHits qs w)))
+
+-- one that is among them adds nothing
+pub together-again : {ps : List (List ℕ)} {k : ℕ} {p : List ℕ} → At ps k p → (d : Doc) → together (ps ++ (p ∷ [])) d ≡ together ps d
+unfolding together anyHits
+together-again {ps} {k} {p} at d = marked-ext _ _ d (λ v l. ap (λ (b : Bool). present d v && b) (same (up (d .rows) v)))
+  where
+    adds : (c : Checked) (hit any : Bool) → (c ≡ Fine → hit ≡ true → any ≡ true) → (any || (whereFine c hit false || false)) ≡ any
+    adds c hit true f = refl
+    adds Fine true false f = absurd (false≢true (f refl refl))
+    adds Fine false false f = refl
+    adds (Refused why) hit false f = refl
+
+    same : (w : List ℕ) → anyHits (ps ++ (p ∷ [])) w ≡ anyHits ps w
+    same w = hits-both ps (p ∷ []) w ∙ adds (ownCheck p) (hits p w) (anyHits ps w) (hit-any w at)

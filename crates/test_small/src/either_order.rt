@@ -22,6 +22,9 @@ use sloefertand::operations::sloefertand_delete;
 // Deletes of two steps.
 const DELETES: usize = 18;
 
+// A first one with a second one.
+const PAIRS: usize = 324;
+
 // What two deletes report, and the digest with both and the marks after them.
 struct Reports {
     first: usize,
@@ -118,7 +121,7 @@ fn pair(c: usize, rows: &[u16], marks: [u8; ROOM], used: usize, s: Sums) -> Sums
 fn pairs(rows: &[u16], marks: [u8; ROOM], used: usize, s: Sums) -> Sums {
     let mut t = s;
     let mut c = 0;
-    while c < 324 {
+    while c < PAIRS {
         t = pair(c, rows, marks, used, t);
         c += 1;
     }
