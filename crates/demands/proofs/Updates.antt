@@ -1,4 +1,5 @@
--- A delete removes exactly what its pattern covers by embeddings, and deletes one after another what one of theirs does; an insert puts a copy under exactly the nodes that its pattern selects by embeddings.
+-- By embeddings: a delete removes exactly what its pattern covers, and deletes one after another what one of their patterns does; an insert puts a copy
+-- under exactly the nodes that its pattern selects.
 use Prim.Native.Nat.{ℕ, _+_, _*_, _<_, _≤_}
 use mathlib.Core.Path.{_≡_, refl, sym, _∙_}
 use mathlib.Core.Bool.{Bool, true, false, _&&_, cond}
@@ -68,7 +69,7 @@ module _ (p : List ℕ) (d : Doc) (pattern : Pattern p) (sound : Sound d) where
       removed-at (Covered p d) (λ v. hits p (up (d .rows) v)) (deleted-rows p d) (deleted-used p d) (deleted-mark p d) (deleted-behind p d)
       (λ v here. (hits-covered v here, covered-hits v (present-used d v here)))
 
--- deletes at all of these remove what one of them covers that is accepted
+-- deletes at all of these remove what one of them covers, of those that are accepted
 module _ (ps : List (List ℕ)) (d : Doc) (accepted : Accepted d) where
   covered-any : (v : ℕ) → v < d .used → CoveredByOne ps d v → anyHits ps (up (d .rows) v) ≡ true
   covered-any v h c =

@@ -28,7 +28,7 @@ pub record RemovedAt (Gone : ℕ → Type 0) (d e : Doc) : Type 0 where
 abbrev pub DeletedBy : List ℕ → Doc → Doc → Type 0
 DeletedBy p d e = RemovedAt (Covered p d) d e
 
--- e is d after deletes at all of these, in whatever order: what one of them covers that is accepted on d is removed
+-- one of these patterns covers v, and a delete at it is accepted on d
 pub record CoveredByOne (ps : List (List ℕ)) (d : Doc) (v : ℕ) : Type 0 where
   pub place : ℕ
   pub pattern : List ℕ
@@ -36,6 +36,7 @@ pub record CoveredByOne (ps : List (List ℕ)) (d : Doc) (v : ℕ) : Type 0 wher
   pub accepted : deleteCheck pattern d ≡ Fine
   pub covers : Covered pattern d v
 
+-- e is d after deletes at all of these, in whatever order: what one of them covers is removed
 abbrev pub AllDeletedBy : List (List ℕ) → Doc → Doc → Type 0
 AllDeletedBy ps d e = RemovedAt (CoveredByOne ps d) d e
 
