@@ -1,15 +1,12 @@
 -- The branches of the code, held against those of the definitions.
 use Prim.Native.Nat.{ℕ, _/_, _<_, _≤_}
-use mathlib.Core.Path.{_≡_}
-use mathlib.Core.Bool.{false}
-use mathlib.Core.List.{List}
-use lib.Dec.{eqb, leb}
-use lib.ListN.{getD}
-use borrow.Author.Tests.{eq-eqb, ne-eqb, lt-ltb, le-leb, lt-leb}
+use mathlib.Core.Path.{_≡_, sym, _∙_}
+use mathlib.Core.Bool.{Bool, false, not, and-eq-true-iff}
+use lib.Dec.{ltb, leb}
+use borrow.Author.Tests.{not-false, lt-ltb, ltb-true, le-leb, lt-leb, leb-true}
 use native.Mathlib.Nat.{pos-of-ne-zero}
-use Rattle.tables.specs.Words.{parent}
 use Rattle.tables.specs.Limits.{usedLimit}
-use Rattle.tables.specs.Checks.{usedRight, markRight}
+use Rattle.tables.specs.Checks.{usedRight}
 
 module _ (words marks used : ℕ) where
   pub used-none : used ≡ 0 → false ≡ usedRight words marks used
@@ -28,15 +25,15 @@ module _ (words marks used : ℕ) where
   unfolding usedRight
   used-fine some h l = rw (lt-ltb 0 used (pos-of-ne-zero some), le-leb used usedLimit h, le-leb used (words / 2) l)
 
-module _ (t m : List ℕ) (v own : ℕ) (e : own ≡ getD m v 0) where
-  pub mark-other : 1 < own → false ≡ markRight t m v
-  unfolding markRight
-  mark-other h = rw (← e, lt-leb own 1 h)
-
-  pub mark-root : own ≤ 1 → v ≡ 0 → eqb own 0 ≡ markRight t m v
-  unfolding markRight
-  mark-root h z = rw (← e, le-leb own 1 h, eq-eqb v 0 z)
-
-  pub mark-under : {above u : ℕ} → u ≡ parent t v → above ≡ getD m u 0 → own ≤ 1 → (v ≡ 0 → ⊥) → leb above own ≡ markRight t m v
-  unfolding markRight
-  mark-under p a h n = rw (← e, le-leb own 1 h, ne-eqb v 0 n, a, p)
+  -- and what a right used count is
+  pub used-held : {flag : Bool} → flag ≡ usedRight words marks used → not flag ≡ false → (0 < used) × (used ≤ usedLimit) × (used ≤ words / 2) × (used ≤ marks)
+  unfolding usedRight
+  used-held is told =
+      let a = and-eq-true-iff (ltb 0 used) _ .0 (sym is ∙ not-false _ told) in
+      let b = and-eq-true-iff (leb used usedLimit) _ .0 (a .1) in
+      let c = and-eq-true-iff (leb used (words / 2)) (leb used marks) .0 (b .1) in (
+        ltb-true 0 used (a .0),
+        leb-true used usedLimit (b .0),
+        leb-true used (words / 2) (c .0),
+        leb-true used marks (c .1),
+      )
