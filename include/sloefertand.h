@@ -4,10 +4,10 @@
  * and no heap, prints nothing and always returns: calls on several threads are fine where no output is shared.
  *
  * STACK
- * What a call keeps for itself is on the stack. On x86-64 print takes at most 62,000 bytes of it; plan 27,000; insert_verdict and
- * deep_insert_verdict 26,000; delete_verdict and deep_delete_verdict 10,000; read_pattern and write_pattern 6,000; insert and
- * delete 5,000; each other call 2,000. These are measured, by boundary/stack.c on the longest patterns, trees, batches and lists,
- * and not proved.
+ * What a call keeps for itself is on the stack. On x86-64 print takes at most 62,000 bytes of it; insert and delete 42,000; read
+ * 38,000, for a set of steps a node; plan 27,000; insert_verdict and deep_insert_verdict 26,000; delete_verdict and
+ * deep_delete_verdict 10,000; read_pattern and write_pattern 6,000; each other call 2,000. These are measured, by
+ * boundary/stack.c on the longest patterns, trees, batches and lists, and not proved.
  *
  * BUFFERS
  * A buffer is a pointer and, behind it, its length in elements (uint16_t words or bytes, not sizeof). The caller answers for

@@ -70,7 +70,7 @@ impl Document {
     }
 
     /// The used nodes as a linked tree with their removed flags.
-    fn linked(&self) -> Tree {
+    pub fn linked(&self) -> Tree {
         let rows = self.words.chunks(2).take(self.used);
         let table: Vec<Row> = rows
             .map(|row| Row {

@@ -1,6 +1,8 @@
-//! Sloefertand's second program: six tables, found by trying all small trees and making all small texts.
+//! Sloefertand's second program: seven tables, found by trying all small trees, making all
+//! small texts and drawing some long patterns.
 
 mod batch;
+mod carrying;
 mod classes;
 mod counts;
 mod damage;
@@ -12,6 +14,7 @@ mod either_order;
 mod examples;
 mod letters;
 mod limits;
+mod long_reads;
 mod node_set;
 mod numbering;
 mod pairs;
@@ -38,7 +41,8 @@ use std::ffi::OsString;
 use std::io::{self, BufWriter, Write};
 use std::process::ExitCode;
 
-const USAGE: &str = "usage: second [pairs | documents | damage | plans | texts | deletes | counts]";
+const USAGE: &str =
+    "usage: second [pairs | documents | damage | plans | texts | deletes | reads | counts]";
 
 /// What is asked for.
 #[derive(Clone, Copy, PartialEq, Eq)]
@@ -50,6 +54,7 @@ enum Wanted {
     Plans,
     Texts,
     Deletes,
+    Reads,
     Counts,
 }
 
@@ -64,6 +69,7 @@ fn wanted(arguments: &[OsString]) -> Option<Wanted> {
             "plans" => Some(Wanted::Plans),
             "texts" => Some(Wanted::Texts),
             "deletes" => Some(Wanted::Deletes),
+            "reads" => Some(Wanted::Reads),
             "counts" => Some(Wanted::Counts),
             _ => None,
         },
@@ -71,7 +77,7 @@ fn wanted(arguments: &[OsString]) -> Option<Wanted> {
     }
 }
 
-/// Writes the six tables in order and gives all their counts.
+/// Writes the seven tables in order and gives all their counts.
 fn write_all(numbering: &Numbering, out: &mut dyn Write) -> io::Result<counts::Counts> {
     let pairs = Pairs::tried(numbering);
     let mut counts = pairs.write(out)?;
@@ -80,6 +86,7 @@ fn write_all(numbering: &Numbering, out: &mut dyn Write) -> io::Result<counts::C
     counts.extend(plans::write(numbering, &pairs, out)?);
     counts.extend(texts::write(out)?);
     counts.extend(either_order::write(numbering, out)?);
+    counts.extend(long_reads::write(out)?);
     Ok(counts)
 }
 
@@ -107,6 +114,9 @@ fn run(wanted: Wanted, out: &mut dyn Write) -> io::Result<()> {
         }
         Wanted::Deletes => {
             either_order::write(&numbering, out)?;
+        }
+        Wanted::Reads => {
+            long_reads::write(out)?;
         }
         Wanted::Counts => counts::write(&write_all(&numbering, &mut io::sink())?, out)?,
     }

@@ -1,17 +1,49 @@
 -- The branches of the code, held against those of the definitions.
-use Prim.Native.Nat.{ℕ, _%_}
-use mathlib.Core.Path.{_≡_}
-use mathlib.Core.Bool.{_&&_, cond}
+use Prim.Native.Nat.{ℕ, zero, suc, pred, _-_, _<_}
+use mathlib.Core.Path.{_≡_, refl}
+use mathlib.Core.Bool.{Bool, true, false, _&&_, cond}
+use mathlib.Core.List.{List}
+use native.Mathlib.Omega.{arith}
 use lib.Dec.{eqb}
+use lib.ListN.{getD}
 use borrow.Author.Tests.{ne-eqb}
-use Rattle.pattern_step.specs.Bytes.{low}
+use Rattle.tables.specs.Words.{parent}
+use Rattle.pattern_set.specs.Sets.{bit, after, Word}
+use Rattle.doc_read.specs.Standing.{over, Placed}
 
-module _ (mark own : ℕ) where
-  pub shown-removed : (mark ≡ 0 → ⊥) → _≡_ {A = ℕ} 0 (cond (eqb mark 0 && low own) 1 0)
+-- the set of the parent: that of the node before, or another before it
+module _ (t sets : List ℕ) (v : ℕ) {near u : ℕ} (some : 0 < v) (placed : Placed t v sets near) (e : u ≡ parent t v) where
+  pub above-less : u < v
+  above-less = rw e (placed .above some)
+
+  pub above-near : u ≡ v - 1 → near ≡ getD sets (parent t v) 0
+  above-near q =
+      let same : pred v ≡ parent t v = omega arith in
+      rw same at (placed .near some)
+
+  pub above-other : {r : ℕ} → r ≡ getD sets u 0 → r ≡ getD sets (parent t v) 0
+  above-other q = rw e at q
+
+over-under : (t sets : List ℕ) (v : ℕ) → (v ≡ 0 → ⊥) → over t sets v ≡ getD sets (parent t v) 0
+unfolding over
+over-under t sets zero n = absurd (n refl)
+over-under t sets (suc v) n = refl
+
+-- the set of a node, on the root and below it
+module _ (t sets : List ℕ) (v g s : ℕ) {r : ℕ} where
+  pub set-root : v ≡ 0 → Word (after (bit g) (bit s) true (bit 0)) 0 r → Word (after (bit g) (bit s) (eqb v 0) (bit (over t sets v))) 0 r
+  unfolding over
+  set-root z w = rw z w
+
+  pub set-under : (v ≡ 0 → ⊥) → {a : ℕ} → a ≡ getD sets (parent t v) 0 → Word (after (bit g) (bit s) false (bit a)) 0 r → Word (after (bit g) (bit s) (eqb v 0) (bit (over t sets v))) 0 r
+  set-under n e w = rw (ne-eqb v 0 n, over-under t sets v n) (rw e at w)
+
+module _ (mark own last : ℕ) where
+  pub shown-removed : (mark ≡ 0 → ⊥) → _≡_ {A = ℕ} 0 (cond (eqb mark 0 && bit own last) 1 0)
   shown-removed h = rw (ne-eqb mark 0 h)
 
-  pub shown-selected : mark ≡ 0 → own % 2 ≡ 1 → _≡_ {A = ℕ} 1 (cond (eqb mark 0 && low own) 1 0)
-  shown-selected h k = rw (h, k)
+  pub shown-selected : mark ≡ 0 → {b : Bool} → b ≡ bit own last → b ≡ true → _≡_ {A = ℕ} 1 (cond (eqb mark 0 && bit own last) 1 0)
+  shown-selected h e k = rw (h, ← e, k)
 
-  pub shown-other : mark ≡ 0 → (own % 2 ≡ 1 → ⊥) → _≡_ {A = ℕ} 0 (cond (eqb mark 0 && low own) 1 0)
-  shown-other h k = rw (h, ne-eqb (own % 2) 1 k)
+  pub shown-other : mark ≡ 0 → {b : Bool} → b ≡ bit own last → b ≡ false → _≡_ {A = ℕ} 0 (cond (eqb mark 0 && bit own last) 1 0)
+  shown-other h e k = rw (h, ← e, k)

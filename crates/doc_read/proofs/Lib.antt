@@ -1,7 +1,6 @@
 -- Laws of reading.
 pub mod Branches
 pub mod Standing
-pub mod Stepping
-pub mod Answers
+pub mod Passing
 pub mod Meeting
 pub mod Laws

@@ -10,9 +10,9 @@ use Rattle.tables.specs.declared.refusal.Refusal.{Refusal}
 use Rattle.tables.specs.declared.refusal.Checked.{Checked}
 use Rattle.tables.specs.declared.refusal.Checked.the-variants.{Fine, Refused}
 use Rattle.tables.proofs.Accepted.{then-first, then-second, output-room}
-use Rattle.tables.proofs.Soundness.{accepted-pattern, node-falls, document-nodes, used-facts}
+use Rattle.tables.proofs.Soundness.{accepted-pattern, accepted-steps, node-falls, document-nodes, used-facts}
 use Rattle.selection.specs.Operations.{readRow}
-use Rattle.doc_read.specs.States.{Readable}
+use Rattle.doc_read.specs.Standing.{Readable}
 use Rattle.check_read.specs.Readable.{readCheck}
 use Rattle.doc_read.specs.Reading.{Read}
 
@@ -35,17 +35,17 @@ module _ (p : List ℕ) (table : ℕ) (d : Doc) (bytes : ℕ) (e : readCheck p t
 
 module _ (p : List ℕ) (table : ℕ) (d : Doc) (before : List ℕ) {got : Checked} (e : got ≡ readCheck p table d (length before)) where
   -- a row that passed the checks can be read into
-  pub fine-readable : got ≡ Fine → Readable p (d .rows) (d .used) before
+  pub fine-readable : got ≡ Fine → Readable p (d .rows) (d .marks) (d .used) before
   fine-readable told =
       let fine : readCheck p table d (length before) ≡ Fine = sym e ∙ told in
       record {
         some = accepted-pattern p stepLimit table (fine-pattern p table d (length before) fine) .some;
-        ready =
-            record {
-              words = used-facts d (fine-document p table d (length before) fine) .2;
-              long = fine-room p table d (length before) fine;
-              parents = node-falls (d .rows) 5 (d .used) (document-nodes d (fine-document p table d (length before) fine));
-            };
+        few = accepted-steps p stepLimit table (fine-pattern p table d (length before) fine);
+        within = used-facts d (fine-document p table d (length before) fine) .1;
+        words = used-facts d (fine-document p table d (length before) fine) .2;
+        marked = used-facts d (fine-document p table d (length before) fine) .3;
+        long = fine-room p table d (length before) fine;
+        parents = node-falls (d .rows) 5 (d .used) (document-nodes d (fine-document p table d (length before) fine));
       }
 
   pub read-fine : got ≡ Fine → {after : List ℕ} → after ≡ readRow p d before → Read p table d before after Fine

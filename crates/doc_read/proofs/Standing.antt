@@ -1,85 +1,62 @@
--- The byte of each node after each step: what `held` says is what a step makes of the bytes before it.
-use Prim.Native.Nat.{ℕ, zero, suc, _+_, _<_}
-use mathlib.Core.Path.{_≡_, refl, sym, _∙_, ap}
-use mathlib.Core.Bool.{Bool, true, false, _&&_, _||_, and-true, and-false, or-false}
-use mathlib.Core.List.{List, _∷_, _++_}
-use native.Mathlib.Nat.{lt-of-lt-of-le}
+-- The set of each node by the set of its parent.
+use Prim.Native.Nat.{ℕ, zero, suc, _<_}
+use mathlib.Core.Path.{_≡_, refl, _∙_}
+use mathlib.Core.Bool.{Bool, true, false, _&&_, _||_, and-false}
+use mathlib.Core.List.{List, [], _∷_}
 use native.Mathlib.Omega.{arith}
-use lib.ListN.{getD, set, drop}
-use Rattle.tables.specs.Words.{parent, tag, label}
-use Rattle.selection.specs.Lists.{tab}
-use Rattle.selection.specs.Ways.{up, runs, run, takes, stays}
+use lib.Dec.{eqb, ltb}
+use borrow.Author.Tests.{ltb-true, lt-ltb, ne-eqb}
+use Rattle.tables.specs.Words.{steps, parent, tag}
+use Rattle.selection.specs.Ways.{empty, up, runs, run, takes, stays}
 use Rattle.selection.proofs.Up.{Falls, up-top, up-node, some-up}
-use Rattle.pattern_step.specs.Bytes.{packed, low, high, under, reached}
-use Rattle.doc_read.specs.States.{stands, held, After}
-use Rattle.pattern_step.proofs.Branches.{reached-under, reached-late, reached-first}
-use Rattle.selection.proofs.Filling.{row-more, row-new, row-old}
+use Rattle.pattern_set.specs.Sets.{bit, moved, after, Word}
+use Rattle.pattern_set.proofs.Bits.{zero-bit}
+use Rattle.pattern_set.proofs.Words.{first-word, first-bit}
+use Rattle.pattern_set.proofs.Many.{word-after}
+use Rattle.pattern_masks.specs.Masks.{agrees}
+use Rattle.doc_read.specs.Standing.{standing, over, Held}
 
-pub low-packed : (a b : Bool) → low (packed a b) ≡ a
-low-packed true true = refl
-low-packed true false = refl
-low-packed false true = refl
-low-packed false false = refl
+-- a step that is not there lands nowhere and stays nowhere
+there : (b x s r m n : Bool) → (b ≡ true → m ≡ n) → (((b && x) && m) || (s && (b && r))) ≡ (b && ((x && n) || (s && r)))
+there true x s r m n e = rw (e refl)
+there false x s r m n e = rw (and-false s)
 
-pub high-packed : (a b : Bool) → high (packed a b) ≡ b
-high-packed true true = refl
-high-packed true false = refl
-high-packed false true = refl
-high-packed false false = refl
+module _ (p : List ℕ) where
+  -- one label more on a way
+  run-on : (l : ℕ) (w : List ℕ) (first : Bool) → first ≡ empty w → (i : ℕ) → after (agrees p l) (stays p false) first (λ j. ltb j (steps p) && run p false j w) i ≡ (ltb i (steps p) && run p false i (l ∷ w))
+  unfolding after moved agrees run runs
+  run-on l w first e zero = there (ltb 0 (steps p)) (takes p 0 l) (stays p false 0) (runs (takes p) (stays p false) 0 w) first (empty w) (λ _. e)
+  run-on l w first e (suc i) =
+      there (ltb (suc i) (steps p)) (takes p (suc i) l) (stays p false (suc i)) (runs (takes p) (stays p false) (suc i) w)
+      (ltb i (steps p) && runs (takes p) (stays p false) i w) (runs (takes p) (stays p false) i w)
+      (λ b. rw (lt-ltb i (steps p) (omega (arith, ltb-true (suc i) (steps p) b))))
 
--- a byte says whether the last step stands at its node
-pub low-held : (p t : List ℕ) (n v : ℕ) → low (held p t n v) ≡ stands p t n v
-unfolding held stands
-low-held p t zero v = refl
-low-held p t (suc i) v = low-packed (stands p t (suc i) v) (stands p t i v)
+-- the way above a node
+above-way : List ℕ → ℕ → List ℕ
+above-way t zero = []
+above-way t (suc v) = up t (parent t (suc v))
 
-module _ (p t : List ℕ) where
-  root-reached : (i above : ℕ) → reached (label p i) (stays p false i) i 0 (tag t 0) above ≡ stands p t (suc i) 0
-  unfolding stands run runs
-  root-reached zero above =
-      sym (reached-first (label p 0) (stays p false 0) 0 0 (tag t 0) above refl refl refl) ∙ rw (up-top t, and-true, and-false, or-false)
-  root-reached (suc i) above =
-      sym (reached-late (label p (suc i)) (stays p false (suc i)) (suc i) 0 (tag t 0) above refl (λ z. omega arith)) ∙ rw (up-top t, and-false (takes p (suc i) (tag t 0)), and-false (stays p false (suc i)))
+first-way : (t : List ℕ) (v : ℕ) → eqb v 0 ≡ empty (above-way t v)
+unfolding above-way
+first-way t zero = refl
+first-way t (suc v) = rw (ne-eqb (suc v) 0 (λ e. omega arith), some-up t (parent t (suc v)))
 
-  under-packed : (i l : ℕ) (a b : Bool) → under (label p i) (stays p false i) l (packed a b) ≡ ((takes p i l && b) || (stays p false i && a))
-  unfolding under
-  under-packed i l a b = rw (high-packed a b, low-packed a b)
+module _ (p t : List ℕ) (n : ℕ) (falls : Falls t n) where
+  way-on : (v : ℕ) → v < n → up t v ≡ tag t v ∷ above-way t v
+  unfolding above-way
+  way-on zero h = up-top t
+  way-on (suc v) h = up-node t n falls (suc v) (omega arith) h
 
-  -- one label more on the way
-  run-on : (i u l : ℕ) → ((takes p i l && stands p t i u) || (stays p false i && stands p t (suc i) u)) ≡ run p false i (l ∷ up t u)
-  unfolding stands run runs
-  run-on zero u l = rw (some-up t u)
-  run-on (suc i) u l = refl
+  above-set : (sets : List ℕ) (v : ℕ) → v < n → Held p t v sets → Word (λ i. ltb i (steps p) && run p false i (above-way t v)) 0 (over t sets v)
+  unfolding standing over above-way run runs
+  above-set sets zero h held = record { at = λ i k. rw (zero-bit i, and-false) }
+  above-set sets (suc v) h held = record { at = λ i k. held .set (parent t (suc v)) (falls (suc v) (omega arith) h) .at i k }
 
-  under-reached : (i u l : ℕ) → under (label p i) (stays p false i) l (held p t (suc i) u) ≡ run p false i (l ∷ up t u)
-  unfolding held
-  under-reached i u l = under-packed i l (stands p t (suc i) u) (stands p t i u) ∙ run-on i u l
-
-  -- what a step makes of the parent's byte is where it stands
-  pub reached-stands : (n : ℕ) → Falls t n → (i v above : ℕ) → v < n → (0 < v → above ≡ held p t (suc i) (parent t v)) → reached (label p i) (stays p false i) i v (tag t v) above ≡ stands p t (suc i) v
-  unfolding stands
-  reached-stands n falls i zero above h e = root-reached i above
-  reached-stands n falls i (suc v) above h e =
-      sym (reached-under (label p i) (stays p false i) i (suc v) (tag t (suc v)) above (λ z. omega arith) refl)
-      ∙ rw (e (omega arith)) (under-reached i (parent t (suc v)) (tag t (suc v)))
-      ∙ ap (run p false i) (sym (up-node t n falls (suc v) (omega arith) h))
-
--- one turn of step i: the byte that it writes at v
-module _ (p t : List ℕ) (i used : ℕ) (old : List ℕ) (after : After p t i used old) where
-  module _ {row : List ℕ} (v : ℕ) (h : v < used) (e : row ≡ tab (held p t (suc i)) v ++ drop v old) where
-    own-stands : low (getD row v 0) ≡ stands p t i v
-    own-stands =
-        ap low (row-old (held p t (suc i)) old v e v (omega arith) ∙ after .holds v h) ∙ low-held p t i v
-
-    above-held : 0 < v → getD row (parent t v) 0 ≡ held p t (suc i) (parent t v)
-    above-held k = row-new (held p t (suc i)) old v e (parent t v) (after .ready .parents v k h)
-
-    byte-held : {own u above l name b : ℕ} {staying : Bool} → name ≡ label p i → staying ≡ stays p false i → own ≡ getD row v 0 → u ≡ parent t v → above ≡ getD row u 0 → l ≡ tag t v → b ≡ packed (reached name staying i v l above) (low own) → b ≡ held p t (suc i) v
-    unfolding held
-    byte-held {above = above} n s o q a m w =
-        w
-        ∙ rw (n, s, m)
-        (rw (reached-stands p t used (after .ready .parents) i v above h (λ k. a ∙ rw q (above-held k)), o, own-stands))
-
-    pub step-more : {own u above l name b : ℕ} {staying : Bool} → name ≡ label p i → staying ≡ stays p false i → own ≡ getD row v 0 → u ≡ parent t v → above ≡ getD row u 0 → l ≡ tag t v → b ≡ packed (reached name staying i v l above) (low own) → set row v b ≡ tab (held p t (suc i)) (v + 1) ++ drop (v + 1) old
-    step-more n s o q a m w = row-more (held p t (suc i)) old v e (lt-of-lt-of-le h (after .ready .long)) (byte-held n s o q a m w)
+  -- the set that is made at a node says what stands there
+  pub node-set : {sets : List ℕ} (v : ℕ) → v < n → Held p t v sets → {g s r : ℕ} → Word (agrees p (tag t v)) 0 g → Word (stays p false) 0 s → Word (after (bit g) (bit s) (eqb v 0) (bit (over t sets v))) 0 r → Word (standing p t v) 0 r
+  unfolding standing moved
+  node-set {sets} v h held agree stay w =
+      let made : Word (after (agrees p (tag t v)) (stays p false) (eqb v 0) (λ i. ltb i (steps p) && run p false i (above-way t v))) 0 _ =
+      word-after (agrees p (tag t v)) (stays p false) (λ i. ltb i (steps p) && run p false i (above-way t v)) 0
+      (agree .at) (stay .at) (above-set sets v h held .at) (eqb v 0) (eqb v 0) refl w in
+      first-word (λ i k. first-bit made i k ∙ rw (way-on v h) (run-on p (tag t v) (above-way t v) (eqb v 0) (first-way t v) i))

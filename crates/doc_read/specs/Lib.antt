@@ -1,3 +1,3 @@
--- What a reader must believe of reading a document is Reading; States is what its inside holds, and need not be believed.
+-- What a reader must believe of reading a document is Reading; Standing is what its inside holds, and need not be believed.
 pub mod Reading
-pub mod States
+pub mod Standing

@@ -1,7 +1,8 @@
-// Everything small over the proved library, by the functions that other languages link: the six tables that the second program prints too. `stdout` holds what that program printed.
+// Everything small, and some long reads, over the proved library, by the functions that other languages link: the seven tables that the second program prints too. `stdout` holds what that program printed.
 mod damage;
 mod digest;
 mod either_order;
+mod long_reads;
 mod numbering;
 mod paired;
 mod pairs;
@@ -23,4 +24,5 @@ fn main() {
     plans::table();
     texts::table();
     either_order::table();
+    long_reads::table();
 }

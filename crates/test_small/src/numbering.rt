@@ -13,7 +13,7 @@ pub(crate) const INSERTED: usize = 66;
 pub(crate) const TREES: usize = 552;
 
 // Writes a pair of words, if there is room for it.
-fn pair(t: &mut [u16], v: usize, first: usize, second: usize) {
+pub(crate) fn pair(t: &mut [u16], v: usize, first: usize, second: usize) {
     if t.len() / 2 <= v {
         return;
     }

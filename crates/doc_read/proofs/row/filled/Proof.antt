@@ -1,6 +1,6 @@
--- All steps, then the answers.
+-- The masks, then the pass.
 use borrow.Author.Needs.{needs}
-use Rattle.doc_read.proofs.Answers.{answer-row}
+use Rattle.doc_read.proofs.Passing.{passable}
 use Rattle.doc_read.proofs.row.filled.Statement.{statement}
 use Rattle.doc_read.proofs.row.filled.Tie as tie
 
@@ -9,7 +9,14 @@ filled-spec =
     tie.close
     (tie.spec
     (λ c κs. search needs)
+    (λ c. search needs)
     (λ c κs. search needs)
     (λ c. search needs)
-    (λ c. answer-row _ _ _ (c .before .before .before .before .before .before .before .before .before .before .before .before .pre .some)
-    (c .before .before .before .before .before .before .stepped .ensures) (c .before .before .answers .ensures)))
+    (λ c κs. search needs)
+    (λ c κs. search needs)
+    (λ c. search needs)
+    (λ c. search needs)
+    (λ c. search needs)
+    (λ c κs. search passable)
+    (λ c. search needs)
+    (λ c. search needs))

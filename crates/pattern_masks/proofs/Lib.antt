@@ -1,0 +1,4 @@
+-- Laws of masks.
+pub mod Passing
+pub mod Slots
+pub mod Masks
