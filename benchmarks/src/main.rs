@@ -1,6 +1,8 @@
 //! The proved library beside peers, in one run on the same inputs: a straightforward Rust program of the same algorithm and,
-//! for reads, libxml2's XPath. Prints two tables in Markdown.
+//! for reads, libxml2's XPath. Prints two tables in Markdown, and a third where another build of the library is there too.
 
+#[cfg(feature = "before")]
+mod before;
 mod documents;
 mod growth;
 mod inputs;
@@ -26,4 +28,9 @@ fn main() {
     rows::print();
     println!();
     growth::print();
+    #[cfg(feature = "before")]
+    {
+        println!();
+        before::print();
+    }
 }

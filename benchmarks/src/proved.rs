@@ -13,19 +13,55 @@ pub struct Answer {
     pub fourth: usize,
 }
 
-#[link(name = "sloefertand", kind = "static")]
+/// The reading of one build of the library, by its name there.
+macro_rules! reading {
+    ($library:literal, $function:ident) => {
+        #[link(name = $library, kind = "static")]
+        extern "C" {
+            fn $function(
+                pattern: *const u16,
+                pattern_words: usize,
+                rows: *const u16,
+                rows_words: usize,
+                marks: *const u8,
+                marks_bytes: usize,
+                used: usize,
+                row: *mut u8,
+                row_bytes: usize,
+            ) -> $crate::proved::Answer;
+        }
+
+        /// A byte a node in use: 1 where the pattern selects it.
+        pub fn read(
+            pattern: &[u16],
+            rows: &[u16],
+            marks: &[u8],
+            used: usize,
+            row: &mut [u8],
+        ) -> $crate::proved::Counted {
+            // The pointers and lengths are those of live slices, and `row` overlaps none of the others.
+            $crate::proved::counted(unsafe {
+                $function(
+                    pattern.as_ptr(),
+                    pattern.len(),
+                    rows.as_ptr(),
+                    rows.len(),
+                    marks.as_ptr(),
+                    marks.len(),
+                    used,
+                    row.as_mut_ptr(),
+                    row.len(),
+                )
+            })
+        }
+    };
+}
+#[cfg(feature = "before")]
+pub(crate) use reading;
+
+reading!("sloefertand", sloefertand_read);
+
 extern "C" {
-    fn sloefertand_read(
-        pattern: *const u16,
-        pattern_words: usize,
-        rows: *const u16,
-        rows_words: usize,
-        marks: *const u8,
-        marks_bytes: usize,
-        used: usize,
-        row: *mut u8,
-        row_bytes: usize,
-    ) -> Answer;
     fn sloefertand_delete_verdict(
         read: *const u16,
         read_words: usize,
@@ -51,29 +87,11 @@ extern "C" {
 pub type Counted = Result<usize, usize>;
 
 /// The first value, or the refusal's number.
-fn counted(answer: Answer) -> Counted {
+pub fn counted(answer: Answer) -> Counted {
     match answer.refusal {
         0 => Ok(answer.first),
         number => Err(number),
     }
-}
-
-/// A byte a node in use: 1 where the pattern selects it.
-pub fn read(pattern: &[u16], rows: &[u16], marks: &[u8], used: usize, row: &mut [u8]) -> Counted {
-    // The pointers and lengths are those of live slices, and `row` overlaps none of the others.
-    counted(unsafe {
-        sloefertand_read(
-            pattern.as_ptr(),
-            pattern.len(),
-            rows.as_ptr(),
-            rows.len(),
-            marks.as_ptr(),
-            marks.len(),
-            used,
-            row.as_mut_ptr(),
-            row.len(),
-        )
-    })
 }
 
 /// The nodes of a smallest witness, 0 for no conflict.

@@ -88,7 +88,9 @@ pub fn read_document(document: &Document, read: &Read) -> Vec<f64> {
         };
         fastest(&mut [&mut ours, &mut theirs])
     };
-    times.extend(read.text.as_ref().and_then(|text| xpath_time(rows, text, &a)));
+    if document.whole() {
+        times.extend(read.text.as_ref().and_then(|text| xpath_time(rows, text, &a)));
+    }
     times
 }
 
@@ -135,24 +137,23 @@ pub fn print() {
         &insert_verdict(64, 256),
     );
     print_row("plan, 128 frames of 63 steps, 4,096 verdicts", &plan(128, 63));
-    for document in [Document::random(4096), Document::chain(4096)] {
-        for read in reads() {
+    for document in Document::all() {
+        let mut all = reads();
+        all.push(read_of_64_steps());
+        for read in all {
             let name = format!(
-                "read `{}`, {}, 4,096 nodes, {} deep",
-                read.text.as_deref().unwrap_or_default(),
+                "read {}, {}, 4,096 nodes, {} deep",
+                read.name(),
                 document.name,
                 depth(&document.rows)
             );
             print_row(&name, &read_document(&document, &read));
         }
-        let long = read_of_64_steps();
-        let name = format!("read of 64 steps, {}, 4,096 nodes", document.name);
-        print_row(&name, &read_document(&document, &long));
     }
 }
 
 /// A pattern of 64 descendant steps; libxml2's answer to such a path is not waited for.
-fn read_of_64_steps() -> Read {
+pub fn read_of_64_steps() -> Read {
     Read {
         text: None,
         words: descending(64, 1, 0),

@@ -1,33 +1,62 @@
-//! Reading a document: one pass a step over the nodes.
+//! Reading a document: one pass over the nodes, the set of steps at each in a number of 64 bits.
 
-use super::{checks, first, label, stays, takes, Counted};
+use super::{checks, first, label, stays, Counted, USED};
 
-/// A byte a node in use: 1 where the pattern selects it. In each byte stand, while steps are taken, whether the last step is at
-/// the node (1) and whether the one before it was (2).
+/// Values of a byte.
+const BYTES: usize = 256;
+
+/// The steps that stay, and in a slot for each value of a label's low and high byte the steps that agree with it.
+struct Masks {
+    staying: u64,
+    low: [u64; BYTES],
+    high: [u64; BYTES],
+}
+
+impl Masks {
+    fn of(pattern: &[u16]) -> Masks {
+        let (mut staying, mut any) = (0, 0);
+        for i in 0..pattern.len() / 2 {
+            staying |= u64::from(stays(pattern, i)) << i;
+            any |= u64::from(label(pattern, i) == 0) << i;
+        }
+        let (mut low, mut high) = ([any; BYTES], [any; BYTES]);
+        for i in 0..pattern.len() / 2 {
+            let name = usize::from(label(pattern, i));
+            if name != 0 {
+                low[name % BYTES] |= 1 << i;
+                high[name / BYTES] |= 1 << i;
+            }
+        }
+        Masks { staying, low, high }
+    }
+
+    /// The steps that agree with a label.
+    fn agreeing(&self, label: u16) -> u64 {
+        let label = usize::from(label);
+        self.low[label % BYTES] & self.high[label / BYTES]
+    }
+}
+
+/// A byte a node in use: 1 where the pattern selects it.
 pub fn read(pattern: &[u16], rows: &[u16], marks: &[u8], used: usize, row: &mut [u8]) -> Counted {
     checks::document(rows, marks, used)?;
     checks::pattern(pattern)?;
     if row.len() < used {
         return Err(7);
     }
-    let row = &mut row[..used];
-    row.fill(0);
-    for i in 0..pattern.len() / 2 {
-        let step = label(pattern, i);
-        let stays = stays(pattern, i);
-        for v in 0..used {
-            let own = row[v];
-            let stands = if v == 0 {
-                i == 0 && takes(step, label(rows, 0))
-            } else {
-                let above = row[first(rows, v)];
-                (above >= 2 && takes(step, label(rows, v))) || (stays && above % 2 == 1)
-            };
-            row[v] = own % 2 * 2 + u8::from(stands);
-        }
-    }
-    for (byte, mark) in row.iter_mut().zip(marks) {
-        *byte = u8::from(*mark == 0 && *byte % 2 == 1);
+    let masks = Masks::of(pattern);
+    let last = pattern.len() / 2 - 1;
+    let mut sets = [0; USED];
+    for v in 0..used {
+        let agreeing = masks.agreeing(label(rows, v));
+        let set = if v == 0 {
+            agreeing & 1
+        } else {
+            let above: u64 = sets[first(rows, v)];
+            (agreeing & (above << 1)) | (masks.staying & above)
+        };
+        sets[v] = set;
+        row[v] = u8::from(marks[v] == 0 && (set >> last) & 1 == 1);
     }
     Ok(0)
 }
