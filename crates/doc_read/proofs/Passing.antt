@@ -21,7 +21,7 @@ use Rattle.selection.proofs.Filling.{row-more, row-end}
 use Rattle.pattern_set.specs.Sets.{bit, after, Word}
 use Rattle.pattern_masks.specs.Masks.{slots, wild, shared, Noted}
 use Rattle.pattern_masks.proofs.Masks.{table-new, table-agrees}
-use Rattle.doc_read.specs.Standing.{standing, over, Held, Readable, Passable, Placed}
+use Rattle.doc_read.specs.Standing.{standsOn, standing, over, Held, Readable, Passable, Placed}
 use Rattle.doc_read.proofs.Standing.{node-set}
 
 -- the masks of the pattern, and room for a set a node
@@ -72,7 +72,7 @@ module _ (p : List ℕ) {staying : ℕ} {low high : List ℕ} (t marks : List �
 
   -- the last step stands at the node exactly if the pattern selects at the end of its way
   last-stands : (v own : ℕ) → Word (standing p t v) 0 own → bit own (steps p - 1) ≡ run p false (last p) (up t v)
-  unfolding standing
+  unfolding standsOn
   last-stands v own w =
       w .at (steps p - 1) (omega (arith, able .readable .some, able .readable .few))
       ∙ rw (zero-add (steps p - 1), lt-ltb (steps p - 1) (steps p) (omega (arith, able .readable .some)), sub-one)

@@ -11,9 +11,13 @@ use Rattle.selection.specs.Ways.{up, run, stays}
 use Rattle.pattern_set.specs.Sets.{wordSteps, Word}
 use Rattle.pattern_masks.specs.Masks.{Table}
 
--- step i is there and stands at v
-unfoldable pub standing : List ℕ → List ℕ → ℕ → ℕ → Bool
-standing p t v i = ltb i (steps p) && run p false i (up t v)
+-- step i is there and stands at the end of this way
+unfoldable pub standsOn : List ℕ → List ℕ → ℕ → Bool
+standsOn p way i = ltb i (steps p) && run p false i way
+
+-- the steps that stand at v
+abbrev pub standing : List ℕ → List ℕ → ℕ → ℕ → Bool
+standing p t v = standsOn p (up t v)
 
 -- the set above v: nothing stands above the root
 unfoldable pub over : List ℕ → List ℕ → ℕ → ℕ

@@ -1,5 +1,5 @@
 -- Steps put into the slots of a table.
-use Prim.Native.Nat.{ℕ, _+_, _-_, _<_, _≤_, min}
+use Prim.Native.Nat.{ℕ, _+_, _-_, _^_, _<_, _≤_, min}
 use mathlib.Core.Path.{_≡_, refl, sym, _∙_}
 use mathlib.Core.Bool.{Bool, false, _&&_, _||_, or-false, or-assoc}
 use mathlib.Core.List.{List}
@@ -7,11 +7,12 @@ use native.Mathlib.Decide.{ℕ-discrete}
 use native.Mathlib.Omega.{arith}
 use lib.Dec.{eqb}
 use lib.ListN.{length, getD, set, length-set}
-use lib.Seq.{getD-set-same, getD-set-other}
+use lib.Seq.{getD-set-same, getD-set-other, ext-getD}
 use borrow.Author.Tests.{eq-eqb, ne-eqb, lt-ltb, le-ltb}
 use Rattle.tables.specs.Words.{steps, label}
 use Rattle.pattern_set.specs.Sets.{bit, wordSteps, Word}
 use Rattle.pattern_set.proofs.Words.{first-word, first-bit}
+use Rattle.pattern_set.proofs.Many.{word-one}
 use Rattle.pattern_masks.specs.Masks.{byteOf, hasByte, named, Added, Noted}
 use Rattle.pattern_masks.proofs.Passing.{either, Below, passed, passed-none, passed-more, passed-all}
 
@@ -28,6 +29,12 @@ added-both {f} {g} {a = a} e p q =
           λ k l. first-word (λ i m. first-bit (q .slot k (rw (p .long) l)) i m
           ∙ rw (first-bit (p .slot k l) i m, or-assoc (bit (getD a k 0) i) (f k i) (g k i), e k i));
     }
+
+-- of numbers of 64 bits two tables with the same new steps are one
+pub added-one : {new : ℕ → ℕ → Bool} {before a b : List ℕ} → Added new before a → Added new before b → ((k : ℕ) → getD a k 0 < 2 ^ wordSteps) → ((k : ℕ) → getD b k 0 < 2 ^ wordSteps) → a ≡ b
+added-one {a = a} {b} p q small less =
+    ext-getD 0 a b (p .long ∙ sym (q .long))
+    (λ k h. word-one (p .slot k (rw (p .long) at h)) (q .slot k (rw (p .long) at h)) (small k) (less k))
 
 -- step i put into slot k
 module _ (t : List ℕ) (k i : ℕ) where
