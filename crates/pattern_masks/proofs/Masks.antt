@@ -28,8 +28,7 @@ module _ (high : Bool) (p : List ℕ) (from w n : ℕ) (wilds : Word (wild p) fr
 
 -- a table of wildcards, once the names are put in, is a table of masks
 pub table-new : (high : Bool) (p : List ℕ) (from w : ℕ) → Word (wild p) from w → {t : List ℕ} → Noted high p from (replicate slots w) t → Table high p from t
-table-new high p from w wilds noted =
-    record { long = noted .long ∙ length-replicate slots w; slot = new-slot high p from w slots wilds noted }
+table-new high p from w wilds noted = record { slot = new-slot high p from w slots wilds noted }
 
 -- two labels are the same exactly if both their bytes are
 other-byte : (a l : ℕ) → (a ≡ l → ⊥) → (eqb (byteOf false a) (byteOf false l) && eqb (byteOf true a) (byteOf true l)) ≡ false

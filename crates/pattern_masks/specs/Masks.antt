@@ -1,4 +1,4 @@
--- The masks of a pattern: which of its steps are wildcards, which stay, and which agree with a label.
+-- Inside: the masks of a pattern, which of its steps are wildcards, which stay, and which agree with a label.
 -- Two labels are equal exactly if both their bytes are. So there is a table for each byte, with a slot for each of its values, and the
 -- steps that agree with a label are those that are in both its slots.
 use Prim.Native.Nat.{ℕ, _+_, _/_, _%_, _<_}
@@ -46,7 +46,6 @@ Noted high p from before after = Added (λ k i. named high p k (from + i)) befor
 
 -- a table of masks for the word from `from` on: in every slot the wildcards, and in each the names with that byte
 pub record Table (high : Bool) (p : List ℕ) (from : ℕ) (table : List ℕ) : Type 0 where
-  pub long : length table ≡ slots
   pub slot : (k : ℕ) → k < slots → Word (λ i. wild p i || named high p k i) from (getD table k 0)
 
 -- the steps that are in the slots of both bytes of a label

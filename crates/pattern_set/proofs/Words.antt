@@ -9,7 +9,7 @@ use lib.Dec.{eqb}
 use lib.Pow.{shl-exact}
 use borrow.Author.Tests.{ne-eqb}
 use mir.Val.{boolByte}
-use Rattle.pattern_set.specs.Sets.{bit, moved, after, wordSteps, Word, Words}
+use Rattle.pattern_set.specs.Sets.{bit, moved, after, wordSteps, Word}
 use Rattle.pattern_set.proofs.Bits.{and-bit, or-bit, double-bit, digit-bit, mod-bit, one-bit}
 
 -- the word that begins with step 0, by its bits, and back

@@ -1,4 +1,4 @@
--- Sets of steps, 64 to a word, and the set of a node by the set of its parent.
+-- Inside: sets of steps, 64 to a word, and the set of a node by the set of its parent.
 use Prim.Native.Nat.{ℕ, zero, suc, _+_, _*_, _/_, _%_, _<_}
 use mathlib.Core.Path.{_≡_}
 use mathlib.Core.Bool.{Bool, _&&_, _||_}
