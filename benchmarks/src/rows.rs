@@ -9,18 +9,23 @@ use std::hint::black_box;
 /// Room for any witness.
 pub const WITNESS: usize = 254;
 
-/// A row's name, its times and how many answers were compared.
+/// A row's name and its times: the library's, the peer's and, where there is one, libxml2's.
 fn print_row(name: &str, times: &[f64]) {
     let ratio = times[0] / times[1];
-    let third = match times.get(2) {
-        Some(time) => format!("{} | {:.0}", text(*time), time / times[0]),
-        None => "– | –".to_string(),
-    };
     println!(
-        "| {name} | {} | {} | {ratio:.2} | {third} |",
+        "| {name} | {} | {} | {ratio:.2} | {} |",
         text(times[0]),
-        text(times[1])
+        text(times[1]),
+        beside(times.get(2), times[0])
     );
+}
+
+/// libxml2's time, and how many times ours it is; nothing where it gave no answer.
+pub fn beside(time: Option<&f64>, ours: f64) -> String {
+    match time {
+        Some(time) => format!("{} | {:.0}", text(*time), time / ours),
+        None => "– | –".to_string(),
+    }
 }
 
 /// A delete verdict of so many steps each, whose witness is as long as the bound.
@@ -72,7 +77,7 @@ pub fn plan(frames: usize, steps: usize) -> Vec<f64> {
     fastest(&mut [&mut ours, &mut theirs])
 }
 
-/// A read of a document, beside the peer and, where it is built in and the read has a text for it, libxml2.
+/// A read of a document, beside the peer and libxml2.
 pub fn read_document(document: &Document, read: &Read) -> Vec<f64> {
     let Document { rows, marks, used, .. } = document;
     let (mut a, mut b) = (vec![2; *used], vec![2; *used]);
@@ -88,10 +93,18 @@ pub fn read_document(document: &Document, read: &Read) -> Vec<f64> {
         };
         fastest(&mut [&mut ours, &mut theirs])
     };
-    if document.whole() {
-        times.extend(read.text.as_ref().and_then(|text| xpath_time(rows, text, &a)));
-    }
+    times.extend(xpath(document, read, &a));
     times
+}
+
+/// libxml2's time for a read that selects these nodes, where it is built in, knows the document and the read has a text for it.
+pub fn xpath(document: &Document, read: &Read, selected: &[u8]) -> Option<f64> {
+    if !document.whole() {
+        return None;
+    }
+    read.text
+        .as_ref()
+        .and_then(|text| xpath_time(&document.rows, text, selected))
 }
 
 /// libxml2's time for a path that selects these nodes.
