@@ -1,4 +1,5 @@
-//! Another build of the library, such as the one before a change: its reading beside this one's, the peer's and libxml2's, on the same documents.
+//! Another build of the library, such as the one before a change: its reading beside this one's, the peer's and
+//! libxml2's, on the same documents.
 
 use crate::documents::{Document, Read};
 use crate::measure::{fastest, text};

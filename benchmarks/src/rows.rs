@@ -97,7 +97,8 @@ pub fn read_document(document: &Document, read: &Read) -> Vec<f64> {
     times
 }
 
-/// libxml2's time for a read that selects these nodes, where it is built in, knows the document and the read has a text for it.
+/// libxml2's time for a read that selects these nodes, where it is built in, the document is whole and the read has
+/// a text.
 pub fn xpath(document: &Document, read: &Read, selected: &[u8]) -> Option<f64> {
     if !document.whole() {
         return None;

@@ -36,9 +36,10 @@ module _ (P : ℕ → Type 0) where
 pub all-fine : (check : ℕ → Checked) (n : ℕ) → ((v : ℕ) → v < n → check v ≡ Fine) → Fine ≡ each check 0 n
 all-fine check n all = sym (each-all check 0 n (λ v h. rw zero-add (all v h)))
 
-pub bit : (b : Bool) → (boolByte b ≤ 1) × ((boolByte b ≡ 0) ↔ (b ≡ false))
-bit true = (omega arith, (λ e. absurd (omega arith), λ e. absurd (false≢true (sym e))))
-bit false = (omega arith, (λ e. refl, λ e. refl))
+-- a flag as a number
+pub flag-number : (b : Bool) → (boolByte b ≤ 1) × ((boolByte b ≡ 0) ↔ (b ≡ false))
+flag-number true = (omega arith, (λ e. absurd (omega arith), λ e. absurd (false≢true (sym e))))
+flag-number false = (omega arith, (λ e. refl, λ e. refl))
 
 pub wrong-none : {a b u bound label : ℕ} → (a ≡ 0) ↔ (leb bound u ≡ false) → (b ≡ 0) ↔ (eqb label 0 ≡ false) → (a + b ≡ 0) ↔ ((u < bound) × (0 < label))
 wrong-none {u = u} {bound = bound} {label = label} first second = (

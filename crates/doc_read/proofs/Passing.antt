@@ -18,10 +18,10 @@ use Rattle.selection.specs.Lists.{tab}
 use Rattle.selection.specs.Ways.{up, run, last, selected, stays}
 use Rattle.selection.specs.Operations.{readRow}
 use Rattle.selection.proofs.Filling.{row-more, row-end}
-use Rattle.pattern_set.specs.Sets.{bit, after, Word}
+use Rattle.pattern_set.specs.Sets.{bit, nextSet, Word}
 use Rattle.pattern_masks.specs.Masks.{slots, wild, shared, Noted}
 use Rattle.pattern_masks.proofs.Masks.{table-new, table-agrees}
-use Rattle.doc_read.specs.Standing.{standsOn, standing, over, Held, Readable, Passable, Placed}
+use Rattle.doc_read.specs.Standing.{standsOn, standing, setAbove, Held, Readable, Passable, Placed}
 use Rattle.doc_read.proofs.Standing.{node-set}
 
 -- the masks of the pattern, and room for a set a node
@@ -65,7 +65,7 @@ module _ (p : List ℕ) {staying : ℕ} {low high : List ℕ} (t marks : List �
       }
 
   -- the set of the next node
-  set-next : {sets : List ℕ} (v : ℕ) → v < used → Held p t v sets → {l g own : ℕ} → l ≡ tag t v → (l < wordLimit) × Word (shared low high l) 0 g → Word (after (bit g) (bit staying) (eqb v 0) (bit (over t sets v))) 0 own → Word (standing p t v) 0 own
+  set-next : {sets : List ℕ} (v : ℕ) → v < used → Held p t v sets → {l g own : ℕ} → l ≡ tag t v → (l < wordLimit) × Word (shared low high l) 0 g → Word (nextSet (bit g) (bit staying) (eqb v 0) (bit (setAbove t sets v))) 0 own → Word (standing p t v) 0 own
   set-next v h held {l} q w =
       node-set p t used (able .readable .parents) v h held
       (rw q at (table-agrees p 0 (able .lows) (able .highs) l (w .0) (w .1))) (able .stays)
@@ -87,7 +87,7 @@ module _ (p : List ℕ) {staying : ℕ} {low high : List ℕ} (t marks : List �
 
   module _ {row : List ℕ} (v : ℕ) (e : row ≡ tab (λ u. cond (selected p (doc t marks used) u) 1 0) v ++ drop v old) where
     -- all that holds behind the turn
-    pub turn : {sets : List ℕ} → v < used → Held p t v sets → length sets ≡ length start → {l g m own b : ℕ} → l ≡ tag t v → (l < wordLimit) × Word (shared low high l) 0 g → Word (after (bit g) (bit staying) (eqb v 0) (bit (over t sets v))) 0 own → m ≡ getD marks v 0 → b ≡ cond (eqb m 0 && bit own (steps p - 1)) 1 0
+    pub turn : {sets : List ℕ} → v < used → Held p t v sets → length sets ≡ length start → {l g m own b : ℕ} → l ≡ tag t v → (l < wordLimit) × Word (shared low high l) 0 g → Word (nextSet (bit g) (bit staying) (eqb v 0) (bit (setAbove t sets v))) 0 own → m ≡ getD marks v 0 → b ≡ cond (eqb m 0 && bit own (steps p - 1)) 1 0
         → (v + 1 ≤ used) × Held p t (v + 1) (set sets v own) × (length (set sets v own) ≡ length start) × (0 < v + 1 → own ≡ getD (set sets v own) (pred (v + 1)) 0) × (set row v b ≡ tab (λ u. cond (selected p (doc t marks used) u) 1 0) (v + 1) ++ drop (v + 1) old)
     turn {sets} h held long {own = own} q w r m b =
         let stands : Word (standing p t v) 0 own = set-next v h held q w r in (

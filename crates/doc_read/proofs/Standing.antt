@@ -9,12 +9,12 @@ use borrow.Author.Tests.{ltb-true, lt-ltb, ne-eqb}
 use Rattle.tables.specs.Words.{steps, parent, tag}
 use Rattle.selection.specs.Ways.{empty, up, runs, run, takes, stays}
 use Rattle.selection.proofs.Up.{Falls, up-top, up-node, some-up}
-use Rattle.pattern_set.specs.Sets.{bit, moved, after, Word}
+use Rattle.pattern_set.specs.Sets.{bit, moved, nextSet, Word}
 use Rattle.pattern_set.proofs.Bits.{zero-bit}
 use Rattle.pattern_set.proofs.Words.{first-word, first-bit}
-use Rattle.pattern_set.proofs.Many.{word-after}
+use Rattle.pattern_set.proofs.Many.{word-next-set}
 use Rattle.pattern_masks.specs.Masks.{agrees}
-use Rattle.doc_read.specs.Standing.{standsOn, standing, over, Held}
+use Rattle.doc_read.specs.Standing.{standsOn, standing, setAbove, Held}
 
 -- a step that is not there lands nowhere and stays nowhere
 there : (b x s r m n : Bool) → (b ≡ true → m ≡ n) → (((b && x) && m) || (s && (b && r))) ≡ (b && ((x && n) || (s && r)))
@@ -23,8 +23,8 @@ there false x s r m n e = rw (and-false s)
 
 module _ (p : List ℕ) where
   -- one label more on a way
-  run-on : (l : ℕ) (w : List ℕ) (first : Bool) → first ≡ empty w → (i : ℕ) → after (agrees p l) (stays p false) first (standsOn p w) i ≡ standsOn p (l ∷ w) i
-  unfolding after moved agrees standsOn run runs
+  run-on : (l : ℕ) (w : List ℕ) (first : Bool) → first ≡ empty w → (i : ℕ) → nextSet (agrees p l) (stays p false) first (standsOn p w) i ≡ standsOn p (l ∷ w) i
+  unfolding nextSet moved agrees standsOn run runs
   run-on l w first e zero = there (ltb 0 (steps p)) (takes p 0 l) (stays p false 0) (runs (takes p) (stays p false) 0 w) first (empty w) (λ _. e)
   run-on l w first e (suc i) =
       there (ltb (suc i) (steps p)) (takes p (suc i) l) (stays p false (suc i)) (runs (takes p) (stays p false) (suc i) w)
@@ -47,16 +47,16 @@ module _ (p t : List ℕ) (n : ℕ) (falls : Falls t n) where
   way-on zero h = up-top t
   way-on (suc v) h = up-node t n falls (suc v) (omega arith) h
 
-  above-set : (sets : List ℕ) (v : ℕ) → v < n → Held p t v sets → Word (standsOn p (above-way t v)) 0 (over t sets v)
-  unfolding standsOn over above-way run runs
+  above-set : (sets : List ℕ) (v : ℕ) → v < n → Held p t v sets → Word (standsOn p (above-way t v)) 0 (setAbove t sets v)
+  unfolding standsOn setAbove above-way run runs
   above-set sets zero h held = record { at = λ i k. rw (zero-bit i, and-false) }
   above-set sets (suc v) h held = record { at = λ i k. held .set (parent t (suc v)) (falls (suc v) (omega arith) h) .at i k }
 
   -- the set that is made at a node says what stands there
-  pub node-set : {sets : List ℕ} (v : ℕ) → v < n → Held p t v sets → {g s r : ℕ} → Word (agrees p (tag t v)) 0 g → Word (stays p false) 0 s → Word (after (bit g) (bit s) (eqb v 0) (bit (over t sets v))) 0 r → Word (standing p t v) 0 r
+  pub node-set : {sets : List ℕ} (v : ℕ) → v < n → Held p t v sets → {g s r : ℕ} → Word (agrees p (tag t v)) 0 g → Word (stays p false) 0 s → Word (nextSet (bit g) (bit s) (eqb v 0) (bit (setAbove t sets v))) 0 r → Word (standing p t v) 0 r
   unfolding moved
   node-set {sets} v h held agree stay w =
-      let made : Word (after (agrees p (tag t v)) (stays p false) (eqb v 0) (standsOn p (above-way t v))) 0 _ =
-      word-after (agrees p (tag t v)) (stays p false) (standsOn p (above-way t v)) 0
+      let made : Word (nextSet (agrees p (tag t v)) (stays p false) (eqb v 0) (standsOn p (above-way t v))) 0 _ =
+      word-next-set (agrees p (tag t v)) (stays p false) (standsOn p (above-way t v)) 0
       (agree .at) (stay .at) (above-set sets v h held .at) (eqb v 0) (eqb v 0) refl w in
       first-word (λ i k. first-bit made i k ∙ rw (way-on v h) (run-on p (tag t v) (above-way t v) (eqb v 0) (first-way t v) i))

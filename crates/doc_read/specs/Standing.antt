@@ -20,9 +20,9 @@ abbrev pub standing : List ℕ → List ℕ → ℕ → ℕ → Bool
 standing p t v = standsOn p (up t v)
 
 -- the set above v: nothing stands above the root
-unfoldable pub over : List ℕ → List ℕ → ℕ → ℕ
-over t sets zero = 0
-over t sets (suc v) = getD sets (parent t (suc v)) 0
+unfoldable pub setAbove : List ℕ → List ℕ → ℕ → ℕ
+setAbove t sets zero = 0
+setAbove t sets (suc v) = getD sets (parent t (suc v)) 0
 
 -- the sets of the nodes below v
 pub record Held (p t : List ℕ) (v : ℕ) (sets : List ℕ) : Type 0 where

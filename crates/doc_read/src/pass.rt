@@ -10,13 +10,13 @@ ghost use mathlib.Core.Bool.{_&&_, cond};
 ghost use lib.Dec.{eqb};
 ghost use Rattle.tables.specs.Documents.{doc};
 ghost use Rattle.selection.specs.Operations.{readRow};
-ghost use Rattle.pattern_set.specs.Sets.{bit, after, Word};
-ghost use Rattle.doc_read.specs.Standing.{over, Passable, Placed};
+ghost use Rattle.pattern_set.specs.Sets.{bit, nextSet, Word};
+ghost use Rattle.doc_read.specs.Standing.{setAbove, Passable, Placed};
 
 // The set of v by the steps that agree with its label: on the root only the first step lands.
 fn set_of(agreeing: u64, staying: u64, rows: &[u16], v: usize, sets: &[u64], near: u64) -> u64
     requires { ⌜ Placed (now rows) v (now sets) near ⌝ }
-    ensures { λ r. ⌜ Word (after (bit agreeing) (bit staying) (eqb v 0) (bit (over (now (rows .entry)) (now (sets .entry)) v))) 0 r ⌝ }
+    ensures { λ r. ⌜ Word (nextSet (bit agreeing) (bit staying) (eqb v 0) (bit (setAbove (now (rows .entry)) (now (sets .entry)) v))) 0 r ⌝ }
 {
     if v == 0 {
         return next(0, agreeing, staying, true);

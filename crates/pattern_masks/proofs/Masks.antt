@@ -14,7 +14,7 @@ use Rattle.selection.specs.Ways.{takes}
 use Rattle.pattern_set.specs.Sets.{bit, Word}
 use Rattle.pattern_set.proofs.Words.{first-word, first-bit}
 use Rattle.pattern_masks.specs.Masks.{byteOf, slots, wild, hasByte, named, agrees, shared, Noted, Table}
-use Rattle.pattern_masks.proofs.Passing.{either}
+use Rattle.pattern_masks.proofs.Passing.{whether}
 
 -- a table of n words w, once the names are put in
 module _ (high : Bool) (p : List ℕ) (from w n : ℕ) (wilds : Word (wild p) from w) {t : List ℕ} (noted : Noted high p from (replicate n w) t) where
@@ -33,13 +33,13 @@ table-new high p from w wilds noted = record { slot = new-slot high p from w slo
 -- two labels are the same exactly if both their bytes are
 other-byte : (a l : ℕ) → (a ≡ l → ⊥) → (eqb (byteOf false a) (byteOf false l) && eqb (byteOf true a) (byteOf true l)) ≡ false
 other-byte a l n =
-    either (ℕ-discrete (byteOf false a) (byteOf false l))
+    whether (ℕ-discrete (byteOf false a) (byteOf false l))
     (λ e. rw (ne-eqb (byteOf true a) (byteOf true l) (λ q. n (omega arith)), and-false (eqb (byteOf false a) (byteOf false l))))
     (λ m. rw (ne-eqb (byteOf false a) (byteOf false l) m))
 
 same-bytes : (a l : ℕ) → (eqb (byteOf false a) (byteOf false l) && eqb (byteOf true a) (byteOf true l)) ≡ eqb a l
 same-bytes a l =
-    either (ℕ-discrete a l)
+    whether (ℕ-discrete a l)
     (λ e. rw (e, eq-eqb (byteOf false l) (byteOf false l) refl, eq-eqb (byteOf true l) (byteOf true l) refl, eq-eqb l l refl))
     (λ n. rw (ne-eqb a l n) (other-byte a l n))
 
@@ -47,7 +47,7 @@ same-bytes a l =
 both-bytes : (a l : ℕ) → ((eqb a 0 || hasByte false a (byteOf false l)) && (eqb a 0 || hasByte true a (byteOf true l))) ≡ (eqb a 0 || eqb a l)
 unfolding hasByte
 both-bytes a l =
-    either (ℕ-discrete a 0)
+    whether (ℕ-discrete a 0)
     (λ e. rw (eq-eqb a 0 e))
     (λ n. rw (ne-eqb a 0 n, lt-ltb 0 a (omega arith)) (same-bytes a l))
 

@@ -15,9 +15,9 @@ use Rattle.pattern_set.proofs.Words.{first-word, first-bit}
 use Rattle.pattern_masks.specs.Masks.{wild}
 
 -- by cases: it is so or it is not
-pub either : {A P : Type 0} → Dec A → (A → P) → ((A → ⊥) → P) → P
-either (yes h) so other = so h
-either (no h) so other = other h
+pub whether : {A P : Type 0} → Dec A → (A → P) → ((A → ⊥) → P) → P
+whether (yes h) so other = so h
+whether (no h) so other = other h
 
 -- a set has no step from n on
 abbrev pub Below : ℕ → (ℕ → Bool) → Type 0
@@ -36,13 +36,13 @@ module _ (f : ℕ → Bool) (from : ℕ) where
   pub passed-more : (i j : ℕ) → (passed f from i j || (f (from + i) && eqb j i)) ≡ passed f from (i + 1) j
   unfolding passed
   passed-more i j =
-      either (ℕ-discrete j i)
+      whether (ℕ-discrete j i)
       (λ e. rw (e, le-ltb i i (omega arith), lt-ltb i (i + 1) (omega arith), eq-eqb i i refl, and-true (f (from + i))))
       (λ n. rw (ne-eqb j i n, and-false (f (from + i)), or-false (ltb j i && f (from + j)), below-more n))
     where
       below-more : (j ≡ i → ⊥) → ltb j i ≡ ltb j (i + 1)
       below-more n =
-          either (decLt j i)
+          whether (decLt j i)
           (λ h. rw (lt-ltb j i h, lt-ltb j (i + 1) (omega arith)))
           (λ h. rw (le-ltb j i (omega arith), le-ltb j (i + 1) (omega arith)))
 
@@ -50,7 +50,7 @@ module _ (f : ℕ → Bool) (from : ℕ) where
   pub passed-all : (n : ℕ) {m : ℕ} → m ≡ min wordSteps (n - from) → Below n f → (j : ℕ) → j < wordSteps → passed f from m j ≡ f (from + j)
   unfolding passed
   passed-all n {m} e below j h =
-      either (decLt j m)
+      whether (decLt j m)
       (λ l. rw (lt-ltb j m l))
       (λ l. rw (le-ltb j m (omega arith)) (sym (below (from + j) (omega arith))))
 

@@ -14,7 +14,7 @@ use Rattle.pattern_set.specs.Sets.{bit, wordSteps, Word}
 use Rattle.pattern_set.proofs.Words.{first-word, first-bit}
 use Rattle.pattern_set.proofs.Many.{word-one}
 use Rattle.pattern_masks.specs.Masks.{byteOf, hasByte, named, Added, Noted}
-use Rattle.pattern_masks.proofs.Passing.{either, Below, passed, passed-none, passed-more, passed-all}
+use Rattle.pattern_masks.proofs.Passing.{whether, Below, passed, passed-none, passed-more, passed-all}
 
 -- nothing new
 added-none : {new : ℕ → ℕ → Bool} (t : List ℕ) → ((k : ℕ) → k < length t → (i : ℕ) → new k i ≡ false) → Added new t t
@@ -52,7 +52,7 @@ module _ (t : List ℕ) (k i : ℕ) where
     note-in =
         record {
           long = length-set t k r;
-          slot = λ j l. either (ℕ-discrete k j) (own-slot j) (other-slot j);
+          slot = λ j l. whether (ℕ-discrete k j) (own-slot j) (other-slot j);
         }
 
 -- step i put into the slot of a byte of its label

@@ -7,7 +7,7 @@ use native.Mathlib.Nat.{add-suc, add-zero}
 use native.Mathlib.Omega.{arith}
 use lib.ListN.{getD}
 use mir.Val.{boolByte}
-use Rattle.pattern_set.specs.Sets.{bit, moved, after, wordSteps, Word, Words}
+use Rattle.pattern_set.specs.Sets.{bit, moved, nextSet, wordSteps, Word, Words}
 use Rattle.pattern_set.proofs.Bits.{same-bits, behind-low, behind-high}
 use Rattle.pattern_set.proofs.Words.{first-word, first-bit}
 
@@ -18,9 +18,9 @@ module _ (take stay above : ℕ → Bool) (from : ℕ) {g s a : ℕ → Bool} (t
   moved-on c first e (suc i) h = stood i (omega arith) ∙ ap (moved c above) (sym (add-suc from i))
 
   -- a word of the node's set, by the masks' and the parent's
-  pub word-after : (c first : Bool) → first ≡ moved c above from → {r : ℕ} → Word (after g s first a) 0 r → Word (after take stay c above) from r
-  unfolding after
-  word-after c first e w =
+  pub word-next-set : (c first : Bool) → first ≡ moved c above from → {r : ℕ} → Word (nextSet g s first a) 0 r → Word (nextSet take stay c above) from r
+  unfolding nextSet
+  word-next-set c first e w =
       record { at = λ i h. first-bit w i h ∙ rw (takes i h, stays i h, stood i h, moved-on c first e i h) }
 
 -- what moves into the word behind is the last bit of this one
@@ -43,10 +43,10 @@ module _ {take stay above : ℕ → Bool} (count : ℕ) {gs ss us : List ℕ} (t
       ∙ ap (moved c above) (sym e)
 
   -- all words of the node's set
-  pub words-after : {rs : List ℕ} → ((k : ℕ) → k < count → Word (after (bit (getD gs k 0)) (bit (getD ss k 0)) (carried c us k) (bit (getD us k 0))) 0 (getD rs k 0)) → Words (after take stay c above) count rs
-  words-after w =
+  pub words-next-set : {rs : List ℕ} → ((k : ℕ) → k < count → Word (nextSet (bit (getD gs k 0)) (bit (getD ss k 0)) (carried c us k) (bit (getD us k 0))) 0 (getD rs k 0)) → Words (nextSet take stay c above) count rs
+  words-next-set w =
       record {
-        word = λ k h. word-after take stay above (wordSteps * k) (takes .word k h .at) (stays .word k h .at) (stood .word k h .at) c (carried c us k) (carried-moved k h) (w k h);
+        word = λ k h. word-next-set take stay above (wordSteps * k) (takes .word k h .at) (stays .word k h .at) (stood .word k h .at) c (carried c us k) (carried-moved k h) (w k h);
       }
 
 -- step i is found in word i / 64, at bit i % 64

@@ -9,7 +9,7 @@ use lib.Dec.{eqb}
 use lib.Pow.{shl-exact}
 use borrow.Author.Tests.{ne-eqb}
 use mir.Val.{boolByte}
-use Rattle.pattern_set.specs.Sets.{bit, moved, after, wordSteps, Word}
+use Rattle.pattern_set.specs.Sets.{bit, moved, nextSet, wordSteps, Word}
 use Rattle.pattern_set.proofs.Bits.{and-bit, or-bit, double-bit, digit-bit, mod-bit, one-bit}
 
 -- the word that begins with step 0, by its bits, and back
@@ -30,8 +30,8 @@ moved-word above first i h =
     or-bit (above * 2 % 18446744073709551616) (boolByte first) i
     ∙ rw (mod-bit 64 (above * 2) i h, double-bit above i, digit-bit first i) (or-moved first (bit above) i)
 
-pub next-word : (above agreeing staying : ℕ) (first : Bool) → Word (after (bit agreeing) (bit staying) first (bit above)) 0 (bitOr (bitAnd agreeing (bitOr (above * 2 % 18446744073709551616) (boolByte first))) (bitAnd staying above))
-unfolding after
+pub next-word : (above agreeing staying : ℕ) (first : Bool) → Word (nextSet (bit agreeing) (bit staying) first (bit above)) 0 (bitOr (bitAnd agreeing (bitOr (above * 2 % 18446744073709551616) (boolByte first))) (bitAnd staying above))
+unfolding nextSet
 next-word above agreeing staying first =
     first-word (λ i h. or-bit (bitAnd agreeing (bitOr (above * 2 % 18446744073709551616) (boolByte first))) (bitAnd staying above) i
     ∙ rw (and-bit agreeing (bitOr (above * 2 % 18446744073709551616) (boolByte first)) i, and-bit staying above i, moved-word above first i h))

@@ -17,8 +17,8 @@ moved first above zero = first
 moved first above (suc i) = above i
 
 -- the steps that stand at a node: those that take its label and whose step before stands above, and those that stay from above
-unfoldable pub after : (ℕ → Bool) → (ℕ → Bool) → Bool → (ℕ → Bool) → ℕ → Bool
-after take stay first above i = (take i && moved first above i) || (stay i && above i)
+unfoldable pub nextSet : (ℕ → Bool) → (ℕ → Bool) → Bool → (ℕ → Bool) → ℕ → Bool
+nextSet take stay first above i = (take i && moved first above i) || (stay i && above i)
 
 -- steps in a word
 abbrev pub wordSteps : ℕ

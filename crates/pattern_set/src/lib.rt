@@ -2,7 +2,7 @@
 ghost use mathlib.Core.Path.{_≡_};
 ghost use mathlib.Core.Bool.{_&&_, _||_};
 ghost use lib.Dec.{eqb};
-ghost use Rattle.pattern_set.specs.Sets.{bit, after, Word};
+ghost use Rattle.pattern_set.specs.Sets.{bit, nextSet, Word};
 
 // Steps in a word.
 pub const WORD_STEPS: usize = 64;
@@ -10,7 +10,7 @@ pub const WORD_STEPS: usize = 64;
 // A word of the set of a node: the steps that agree with its label, moved on by one from above, and those that stay from above.
 // `first` says whether the step before the word's first one stands above.
 pub fn next(above: u64, agreeing: u64, staying: u64, first: bool) -> u64
-    ensures { λ r. ⌜ Word (after (bit agreeing) (bit staying) first (bit above)) 0 r ⌝ }
+    ensures { λ r. ⌜ Word (nextSet (bit agreeing) (bit staying) first (bit above)) 0 r ⌝ }
 {
     (agreeing & ((above << 1) | (first as u64))) | (staying & above)
 }
