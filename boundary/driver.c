@@ -156,6 +156,10 @@ static sloefertand_answer write_pattern(const argument *a) {
     return sloefertand_write_pattern(a[0].bytes, a[0].size, a[1].words, a[1].size, a[2].bytes, a[2].size);
 }
 
+static sloefertand_answer write_tree(const argument *a) {
+    return sloefertand_write_tree(a[0].words, a[0].size, a[1].bytes, a[1].size);
+}
+
 static sloefertand_answer print_plan(const argument *a) {
     return sloefertand_print(a[0].bytes, a[0].size, a[1].bytes, a[1].size);
 }
@@ -178,6 +182,7 @@ static const function functions[] = {
     {"write_line", write_line, 1, {{"words", 'x'}, {"line", 'y'}}},
     {"read_pattern", read_pattern, 1, {{"list", 'l'}, {"text", 'm'}, {"words", 't'}}},
     {"write_pattern", write_pattern, 1, {{"list", 'l'}, {"pattern", 'r'}, {"text", 'y'}}},
+    {"write_tree", write_tree, 1, {{"tree", 'x'}, {"text", 'y'}}},
     {"print", print_plan, 1, {{"lines", 'm'}, {"text", 'y'}}},
 };
 
@@ -287,19 +292,20 @@ static sloefertand_answer answer_of(const function *f) {
     return answer;
 }
 
-/* The text that a print left in y, as it stands, on lines of its own. */
+/* The text that a print or a tree left in y, as it stands, on lines of its own. */
 static void show_text(size_t bytes) {
     const argument *y = argument_of('y');
     printf("\n");
     fwrite(y->bytes, 1, bytes < y->size ? bytes : y->size, stdout);
 }
 
-/* Calls a function and shows its answer. A print shows its text too, and an insert sets u to the new used count. */
+/* Calls a function and shows its answer. A print shows its text too, as does a tree that is written, and an insert sets u to the new
+ * used count. */
 static void call(const function *f) {
     called[f - functions] = true;
     sloefertand_answer answer = answer_of(f);
     show_answer(f, answer);
-    if (f->call == print_plan) {
+    if (f->call == print_plan || (f->call == write_tree && answer.refusal == 0)) {
         show_text(answer.first);
     }
     if (f->call == insert_copies && answer.refusal == 0) {

@@ -1,7 +1,7 @@
 /* Measures the stack that each call of the library takes. A call runs on a stack of its own, which is filled with one byte before;
  * the deepest byte that changed says how far it went, less what a call of nothing takes. Patterns have 64 steps, inserted trees 256
- * nodes, the batch fills its words, a plain reading has 8 steps on 16 nodes, a list has 256 names: the longest of each, so that every
- * inside is reached.
+ * nodes, each below the one before it, the batch fills its words, a plain reading has 8 steps on 16 nodes, a list has 256 names: the
+ * longest of each, so that every inside is reached.
  *
  * Prints a line a function: its bytes, and the most that the header says. Status 1 where one takes more than that; 2 where a call
  * was refused, and so measured nothing. */
@@ -25,6 +25,7 @@ static uint16_t witness[SLOEFERTAND_WITNESS_WORDS], plan[SLOEFERTAND_FRAMES], wo
 static uint8_t line[SLOEFERTAND_LINE_DIGITS], lines[4 * SLOEFERTAND_BATCH_WORDS + SLOEFERTAND_FRAMES], text[SLOEFERTAND_PLAN_BYTES];
 static uint8_t list[5 * SLOEFERTAND_NAMES], pattern_text[6 * SLOEFERTAND_STEPS];
 static uint16_t named[SLOEFERTAND_PATTERN_WORDS];
+static uint8_t tree_text[SLOEFERTAND_TREE_BYTES(SLOEFERTAND_TREE_NODES)];
 static size_t batch_words, line_bytes, lines_bytes, list_bytes, pattern_text_bytes;
 
 static sloefertand_answer answer;
@@ -63,6 +64,7 @@ static void read_pattern(void) {
 static void write_pattern(void) {
     answer = sloefertand_write_pattern(list, list_bytes, named, COUNT(named), pattern_text, COUNT(pattern_text));
 }
+static void write_tree(void) { answer = sloefertand_write_tree(tree, COUNT(tree), tree_text, COUNT(tree_text)); }
 static void printing(void) { answer = sloefertand_print(lines, lines_bytes, text, COUNT(text)); }
 
 /* Each function with the most bytes that the header says; deleting is last of those on the document, which it empties. */
@@ -88,6 +90,7 @@ static const struct measured {
     {"read_line", read_line, 2000},
     {"write_pattern", write_pattern, 6000},
     {"read_pattern", read_pattern, 6000},
+    {"write_tree", write_tree, 39000},
     {"print", printing, 62000},
 };
 

@@ -1,13 +1,15 @@
 /*
- * Sloefertand for C and C++: reading and updating a tree held in tables, conflict verdicts, the plan of a batch, patterns as text.
+ * Sloefertand for C and C++: reading and updating a tree held in tables, conflict verdicts, the plan of a batch, patterns as text,
+ * trees as tags.
  * Link with libsloefertand.a, which wants the C library's memset and memcpy and, on x86-64, nothing else. The library has no state
  * and no heap, prints nothing and always returns: calls on several threads are fine where no output is shared.
  *
  * STACK
- * What a call keeps for itself is on the stack. On x86-64 print takes at most 62,000 bytes of it; insert and delete 42,000; read
- * 38,000, for a set of steps a node; plan 27,000; insert_verdict and deep_insert_verdict 26,000; delete_verdict and
- * deep_delete_verdict 10,000; read_pattern and write_pattern 6,000; each other call 2,000. These are measured, by
- * boundary/stack.c on the longest patterns, trees, batches and lists, and not proved.
+ * What a call keeps for itself is on the stack. On x86-64 print takes at most 62,000 bytes of it; insert and delete 42,000;
+ * write_tree 39,000, for 256 nodes each below the one before it; read 38,000, for a set of steps a node; plan 27,000;
+ * insert_verdict and deep_insert_verdict 26,000; delete_verdict and deep_delete_verdict 10,000; read_pattern and write_pattern
+ * 6,000; each other call 2,000. These are measured, by boundary/stack.c on the longest patterns, trees, batches and lists, and not
+ * proved.
  *
  * BUFFERS
  * A buffer is a pointer and, behind it, its length in elements (uint16_t words or bytes, not sizeof). The caller answers for
@@ -62,7 +64,7 @@ extern "C" {
 
 /* The limits. */
 #define SLOEFERTAND_STEPS 64u           /* steps of a pattern */
-#define SLOEFERTAND_TREE_NODES 256u     /* nodes of an inserted tree */
+#define SLOEFERTAND_TREE_NODES 256u     /* nodes of an inserted tree, and of one that is written as tags */
 #define SLOEFERTAND_USED_NODES 4096u    /* nodes in use of a document */
 #define SLOEFERTAND_PLAIN_STEPS 8u      /* steps and nodes of a plain reading */
 #define SLOEFERTAND_PLAIN_NODES 16u
@@ -74,6 +76,9 @@ extern "C" {
 #define SLOEFERTAND_PATTERN_WORDS 128u  /* words with room for any pattern */
 #define SLOEFERTAND_WITNESS_WORDS 254u  /* words with room for the witness of any verdict */
 #define SLOEFERTAND_PLAN_BYTES 1664u    /* bytes with room for any printed plan */
+
+/* Bytes with room for any tree of so many nodes, from 1 on, that is written as tags. */
+#define SLOEFERTAND_TREE_BYTES(nodes) (17u * (nodes) - 8u)
 
 /* What every call returns. */
 typedef struct sloefertand_answer {
@@ -207,6 +212,15 @@ sloefertand_answer sloefertand_read_pattern(const uint8_t *list, size_t list_byt
  * step, and those of its name or star, are always enough. */
 sloefertand_answer sloefertand_write_pattern(const uint8_t *list, size_t list_bytes, const uint16_t *pattern, size_t pattern_words,
                                              uint8_t *text, size_t text_bytes);
+
+/* TREES AS TAGS: element n and the label in decimal, <n1/> for a node without children, otherwise <n1>, the children in rising number,
+ * each with its own children inside it, and </n1>. No spaces and no line ends. */
+
+/* Writes a tree of at most 256 nodes, a witness for instance, as tags. first: the bytes. A node without children takes 4 bytes and
+ * its label's digits, any other 7 and twice its label's digits; so SLOEFERTAND_TREE_BYTES of its nodes are always enough, 4,344 for
+ * 256 of them.
+ * Refusals: the tree's (1, 2, 4, 5 of table 5), then 7 where the whole text does not fit into `text`. */
+sloefertand_answer sloefertand_write_tree(const uint16_t *tree, size_t tree_words, uint8_t *text, size_t text_bytes);
 
 #ifdef __cplusplus
 }

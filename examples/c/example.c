@@ -1,5 +1,5 @@
-/* What a program in C does with the library: it plans a batch, reads a line, asks for verdicts, reads a document, reads and writes
- * patterns as text and meets refusals. examples/run builds and runs it. Names a to e are the labels 1 to 5; the patterns as text have
+/* What a program in C does with the library: it plans a batch, reads a line, asks for verdicts, writes a witness as XML, reads a
+ * document, reads and writes patterns as text and meets refusals. examples/run builds and runs it. Names a to e are the labels 1 to 5; the patterns as text have
  * names of their own. */
 #include <stdint.h>
 #include <stdio.h>
@@ -58,7 +58,16 @@ static void show_line(const char *line) {
     printf("\n");
 }
 
-/* A verdict, with its witness, a node a line. */
+/* A tree as nested tags, which an XML editor opens: there is room for that of any witness. */
+static void show_tags(const uint16_t *tree, size_t nodes) {
+    char text[SLOEFERTAND_TREE_BYTES(SLOEFERTAND_WITNESS_WORDS / 2)];
+    sloefertand_answer written = sloefertand_write_tree(tree, 2 * nodes, (uint8_t *)text, COUNT(text));
+    if (!refused(written)) {
+        printf("as XML: %.*s\n", (int)written.first, text);
+    }
+}
+
+/* A verdict, with its witness, a node a line and as XML. */
 static void show_verdict(sloefertand_answer verdict, const uint16_t *witness) {
     if (refused(verdict)) {
         return;
@@ -71,6 +80,7 @@ static void show_verdict(sloefertand_answer verdict, const uint16_t *witness) {
     for (size_t node = 0; node < verdict.first; node++) {
         printf("node %zu: parent %u, label %u\n", node, (unsigned)witness[2 * node], (unsigned)witness[2 * node + 1]);
     }
+    show_tags(witness, verdict.first);
 }
 
 /* Whether a read and a delete conflict. */

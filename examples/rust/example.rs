@@ -1,6 +1,6 @@
-//! What a program in Rust does with the library: it plans a batch, reads a line, asks for verdicts, reads a document, reads and writes
-//! patterns as text and meets refusals. `examples/run` builds and runs it. Names a to e are the labels 1 to 5; the patterns as text have
-//! names of their own.
+//! What a program in Rust does with the library: it plans a batch, reads a line, asks for verdicts, writes a witness as XML, reads a
+//! document, reads and writes patterns as text and meets refusals. `examples/run` builds and runs it. Names a to e are the labels 1 to 5;
+//! the patterns as text have names of their own.
 
 /// The library behind safe functions over slices: `include/sloefertand.h` says what each promises and refuses.
 mod sloefertand {
@@ -9,6 +9,11 @@ mod sloefertand {
     pub const WITNESS_WORDS: usize = 254;
     pub const LINE_WORDS: usize = 643;
     pub const PATTERN_WORDS: usize = 128;
+
+    /// Bytes with room for any tree of so many nodes, from 1 on, that is written as tags.
+    pub const fn tree_bytes(nodes: usize) -> usize {
+        17 * nodes - 8
+    }
 
     /// What every exported function returns.
     #[repr(C)]
@@ -125,6 +130,12 @@ mod sloefertand {
                 list_bytes: usize,
                 pattern: *const u16,
                 pattern_words: usize,
+                text: *mut u8,
+                text_bytes: usize,
+            ) -> Answer;
+            pub fn sloefertand_write_tree(
+                tree: *const u16,
+                tree_words: usize,
                 text: *mut u8,
                 text_bytes: usize,
             ) -> Answer;
@@ -287,6 +298,19 @@ mod sloefertand {
         };
         answer.values().map(|values| values.first)
     }
+
+    /// The number of bytes of a tree's nested tags, which are written to `text`.
+    pub fn write_tree(tree: &[u16], text: &mut [u8]) -> Result<usize, Refusal> {
+        let answer = unsafe {
+            exported::sloefertand_write_tree(
+                tree.as_ptr(),
+                tree.len(),
+                text.as_mut_ptr(),
+                text.len(),
+            )
+        };
+        answer.values().map(|values| values.first)
+    }
 }
 
 use sloefertand::Refusal;
@@ -330,32 +354,39 @@ fn show_line(line: &[u8]) -> Result<(), Refusal> {
     Ok(())
 }
 
-/// A verdict, with its witness, a node a line.
-fn show_verdict(nodes: usize, witness: &[u16]) {
+/// A tree as nested tags, which an XML editor opens: there is room for that of any witness.
+fn show_tags(tree: &[u16]) -> Result<(), Refusal> {
+    let mut text = [0; sloefertand::tree_bytes(sloefertand::WITNESS_WORDS / 2)];
+    let bytes = sloefertand::write_tree(tree, &mut text)?;
+    println!("as XML: {}", String::from_utf8_lossy(&text[..bytes]));
+    Ok(())
+}
+
+/// A verdict, with its witness, a node a line and as XML.
+fn show_verdict(nodes: usize, witness: &[u16]) -> Result<(), Refusal> {
     if nodes == 0 {
         println!("no conflict");
-        return;
+        return Ok(());
     }
     println!("conflict, shown by {nodes} nodes");
     for (node, words) in witness[..2 * nodes].chunks(2).enumerate() {
         println!("node {node}: parent {}, label {}", words[0], words[1]);
     }
+    show_tags(&witness[..2 * nodes])
 }
 
 /// Whether a read and a delete conflict.
 fn show_delete_verdict(read: &[u16], update: &[u16]) -> Result<(), Refusal> {
     let mut witness = [0; sloefertand::WITNESS_WORDS];
     let nodes = sloefertand::delete_verdict(read, update, &mut witness)?;
-    show_verdict(nodes, &witness);
-    Ok(())
+    show_verdict(nodes, &witness)
 }
 
 /// Whether a read and an insert conflict.
 fn show_insert_verdict(read: &[u16], update: &[u16], tree: &[u16]) -> Result<(), Refusal> {
     let mut witness = [0; sloefertand::WITNESS_WORDS];
     let nodes = sloefertand::insert_verdict(read, update, tree, &mut witness)?;
-    show_verdict(nodes, &witness);
-    Ok(())
+    show_verdict(nodes, &witness)
 }
 
 /// A deep verdict.

@@ -5,7 +5,7 @@ use crate::node_set::NodeSet;
 use crate::pattern::Pattern;
 use crate::placing::selected;
 use crate::refusal::{number, Refusal, ROOM, UPDATE};
-use crate::tree::{Row, Tree};
+use crate::tree::{rows_of, Row, Tree};
 use crate::updates::{delete_at, insert_at};
 
 /// A document: two words a node, a mark a node, and how many nodes are used.
@@ -71,14 +71,7 @@ impl Document {
 
     /// The used nodes as a linked tree with their removed flags.
     pub fn linked(&self) -> Tree {
-        let rows = self.words.chunks(2).take(self.used);
-        let table: Vec<Row> = rows
-            .map(|row| Row {
-                parent: usize::from(row[0]),
-                label: row[1],
-            })
-            .collect();
-        let mut tree = Tree::linked(&table);
+        let mut tree = Tree::linked(&rows_of(&self.words[..2 * self.used]));
         for number in (0..self.used).filter(|&v| self.marks[v] == 1) {
             tree.remove(number);
         }

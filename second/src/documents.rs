@@ -4,7 +4,7 @@ use crate::counts::{Count, Counts};
 use crate::digest::Digest;
 use crate::document::Document;
 use crate::numbering::{trees_of, Numbering, TREE_LABELS};
-use crate::tree::Row;
+use crate::tree::{words_of, Row};
 use std::io::{self, Write};
 
 /// Documents have 1 to this many nodes.
@@ -69,8 +69,7 @@ fn is_sound(table: &[Row], marking: usize) -> bool {
 /// The document of a tree and a marking, with its spare room.
 fn document(table: &[Row], marking: usize) -> Document {
     let used = table.len();
-    let rows = table.iter().flat_map(|row| [row.parent as u16, row.label]);
-    let mut words: Vec<u16> = rows.collect();
+    let mut words = words_of(table);
     words.resize(2 * (used + SPARE_NODES), 0);
     let mut marks: Vec<u8> = (0..used).map(|v| (marking >> v & 1) as u8).collect();
     marks.resize(used + SPARE_NODES, SPARE_MARK);

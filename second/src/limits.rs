@@ -1,10 +1,13 @@
-//! The limits of document 01, each named once.
+//! The limits of documents 01 and 02, each named once.
 
 /// A pattern has at most this many steps.
 pub const STEPS: usize = 64;
 
 /// An inserted tree has at most this many nodes.
 pub const INSERTED_NODES: usize = 256;
+
+/// A tree that is written as tags has at most this many nodes.
+pub const TAGGED_NODES: usize = 256;
 
 /// A batch has at most this many frames.
 pub const FRAMES: usize = 128;

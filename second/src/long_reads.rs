@@ -3,6 +3,7 @@
 use crate::carrying::answer;
 use crate::counts::{Count, Counts};
 use crate::digest::Digest;
+use crate::draws::Draws;
 use crate::pattern::{Axis, Pattern, Step, WILDCARD};
 use crate::tree::{Row, Tree, ROOT};
 use std::io::{self, Write};
@@ -27,19 +28,6 @@ const FIRST_MARKED: usize = 4;
 
 /// They begin at this node.
 const FIRST_REMOVED: usize = 128;
-
-/// The row of numbers that draws come from.
-struct Draws {
-    state: usize,
-}
-
-impl Draws {
-    /// The next number below `limit`.
-    fn below(&mut self, limit: usize) -> usize {
-        self.state = (75 * self.state + 74) % 65_537;
-        self.state % limit
-    }
-}
 
 /// What the reads by patterns of one length answer.
 #[derive(Default)]
@@ -82,7 +70,7 @@ fn tally_of(documents: &[Tree], steps: usize) -> Tally {
 
 /// Document d.
 fn document(d: usize) -> Tree {
-    let mut draws = Draws { state: d };
+    let mut draws = Draws::from_state(d);
     let mut table = vec![Row {
         parent: ROOT,
         label: LABELS[0],
@@ -106,9 +94,7 @@ fn document(d: usize) -> Tree {
 /// Pattern k of so many steps for document d. It is drawn along a way up from a
 /// node, the last step first; one step may then have a label of its own.
 fn pattern(tree: &Tree, size: usize, d: usize, k: usize) -> Pattern {
-    let mut draws = Draws {
-        state: 1000 * size + 100 * d + k,
-    };
+    let mut draws = Draws::from_state(1000 * size + 100 * d + k);
     let strange = (PATTERNS * d + k) % (2 * size);
     let mut node = 2 * size + draws.below(NODES - 2 * size);
     let mut steps = Vec::with_capacity(size);
@@ -171,13 +157,5 @@ mod tests {
             let removed = document(d).nodes().iter().any(|node| node.removed);
             assert_eq!(removed, d >= FIRST_MARKED);
         }
-    }
-
-    #[test]
-    fn the_first_draws_follow_the_rule() {
-        let mut draws = Draws { state: 1 };
-        assert_eq!(draws.below(100), 49);
-        assert_eq!(draws.below(65_537), 75 * 149 + 74);
-        assert_eq!(draws.below(7), (75 * 11_249 + 74) % 65_537 % 7);
     }
 }

@@ -1,7 +1,8 @@
-//! Sloefertand's second program: seven tables, found by trying all small trees, making all
-//! small texts and drawing some long patterns.
+//! Sloefertand's second program: eight tables, found by trying all small trees, making all
+//! small texts, and drawing some long patterns and some large trees.
 
 mod batch;
+mod buffers;
 mod carrying;
 mod classes;
 mod counts;
@@ -9,6 +10,7 @@ mod damage;
 mod digest;
 mod document;
 mod documents;
+mod draws;
 mod either_order;
 #[cfg(test)]
 mod examples;
@@ -27,8 +29,12 @@ mod right_lists;
 mod right_texts;
 mod rows;
 mod single_bytes;
+mod tag_trees;
+mod tags;
 mod texts;
 mod tree;
+mod tree_tags;
+mod tree_texts;
 mod two_damages;
 mod updates;
 #[cfg(test)]
@@ -42,7 +48,7 @@ use std::io::{self, BufWriter, Write};
 use std::process::ExitCode;
 
 const USAGE: &str =
-    "usage: second [pairs | documents | damage | plans | texts | deletes | reads | counts]";
+    "usage: second [pairs | documents | damage | plans | texts | deletes | reads | tags | counts]";
 
 /// What is asked for.
 #[derive(Clone, Copy, PartialEq, Eq)]
@@ -55,6 +61,7 @@ enum Wanted {
     Texts,
     Deletes,
     Reads,
+    Tags,
     Counts,
 }
 
@@ -70,6 +77,7 @@ fn wanted(arguments: &[OsString]) -> Option<Wanted> {
             "texts" => Some(Wanted::Texts),
             "deletes" => Some(Wanted::Deletes),
             "reads" => Some(Wanted::Reads),
+            "tags" => Some(Wanted::Tags),
             "counts" => Some(Wanted::Counts),
             _ => None,
         },
@@ -77,7 +85,7 @@ fn wanted(arguments: &[OsString]) -> Option<Wanted> {
     }
 }
 
-/// Writes the seven tables in order and gives all their counts.
+/// Writes the eight tables in order and gives all their counts.
 fn write_all(numbering: &Numbering, out: &mut dyn Write) -> io::Result<counts::Counts> {
     let pairs = Pairs::tried(numbering);
     let mut counts = pairs.write(out)?;
@@ -87,6 +95,7 @@ fn write_all(numbering: &Numbering, out: &mut dyn Write) -> io::Result<counts::C
     counts.extend(texts::write(out)?);
     counts.extend(either_order::write(numbering, out)?);
     counts.extend(long_reads::write(out)?);
+    counts.extend(tree_tags::write(out)?);
     Ok(counts)
 }
 
@@ -117,6 +126,9 @@ fn run(wanted: Wanted, out: &mut dyn Write) -> io::Result<()> {
         }
         Wanted::Reads => {
             long_reads::write(out)?;
+        }
+        Wanted::Tags => {
+            tree_tags::write(out)?;
         }
         Wanted::Counts => counts::write(&write_all(&numbering, &mut io::sink())?, out)?,
     }

@@ -1,8 +1,9 @@
 //! Patterns read from text and written as text, by looking for them among the right texts. No text here is so long that its steps pass
 //! the limit.
 
+use crate::buffers::fitting;
 use crate::letters::Name;
-use crate::refusal::{number, Refusal, LIST, READ, ROOM, TEXT};
+use crate::refusal::{number, Refusal, LIST, READ, TEXT};
 use crate::right_lists::RightLists;
 use crate::right_texts::{RightTexts, TextStep, STAR};
 use std::collections::HashMap;
@@ -94,14 +95,6 @@ fn check_pattern(words: &[u16]) -> Result<(), Refusal> {
         Some(step) => Err(refused(number::WRONG_AXIS, READ, step)),
         None => Ok(()),
     }
-}
-
-/// What is written, if there is room for it.
-fn fitting<T>(written: Vec<T>, room: usize) -> Result<Vec<T>, Refusal> {
-    if written.len() > room {
-        return Err(refused(number::TOO_SHORT, ROOM, 0));
-    }
-    Ok(written)
 }
 
 /// A refusal.

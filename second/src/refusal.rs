@@ -11,6 +11,9 @@ pub const UPDATE: usize = 2;
 /// The table at fault when the output or the room is.
 pub const ROOM: usize = 4;
 
+/// The table at fault when a document is, or a tree that is no inserted one.
+pub const DOCUMENT: usize = 5;
+
 /// The table at fault in a batch.
 pub const BATCH: usize = 6;
 

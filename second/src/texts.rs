@@ -1,5 +1,6 @@
 //! Table 5: patterns read from text and written as text, everything small.
 
+use crate::buffers;
 use crate::counts::{Count, Counts};
 use crate::digest::Digest;
 use crate::pattern_texts::{names_of, Reader, Writer};
@@ -62,7 +63,7 @@ const PAIRED_TEXT: &[u8] = b"/a*";
 const PAIRED_WORDS: &[u16] = &[0, 1, 2];
 
 /// What each element of a buffer is before a call.
-const FILLING: usize = 7;
+const FILLING: u8 = 7;
 
 /// Writes table 5.
 pub fn write(out: &mut dyn Write) -> io::Result<Counts> {
@@ -188,22 +189,12 @@ fn write_paired(out: &mut dyn Write) -> io::Result<usize> {
     Ok(tried)
 }
 
-/// Takes how much was written, or the refusal, and then the whole buffer after the call.
-fn take<T: Into<usize> + Copy>(digest: &mut Digest, answer: &Result<Vec<T>, Refusal>, room: usize) {
-    let written: &[T] = match answer {
-        Ok(written) => {
-            digest.take(written.len());
-            written
-        }
-        Err(refusal) => {
-            digest.take_refusal(*refusal);
-            &[]
-        }
-    };
-    digest.take_all(written);
-    for _ in written.len()..room {
-        digest.take(FILLING);
-    }
+/// Takes an answer and its buffer.
+fn take<T>(digest: &mut Digest, answer: &Result<Vec<T>, Refusal>, room: usize)
+where
+    T: From<u8> + Into<usize> + Copy,
+{
+    buffers::take(digest, answer, room, T::from(FILLING));
 }
 
 #[cfg(test)]
@@ -225,25 +216,5 @@ mod tests {
             "0", "0", "3", "1", "9", "15", "34", "82", "171", "0", "0", "3", "0", "18", "0", "108",
         ];
         assert_eq!(counts, each.map(|count| [count, count]));
-    }
-
-    #[test]
-    fn a_refusal_leaves_the_buffer() {
-        let of = |answer: Result<Vec<u16>, Refusal>| {
-            let mut digest = Digest::default();
-            take(&mut digest, &answer, 3);
-            digest
-        };
-        let mut expected = Digest::default();
-        expected.take_all(&[2u16, 0, 1, 7]);
-        assert_eq!(of(Ok(vec![0, 1])), expected);
-        let refusal = Refusal {
-            number: 15,
-            table: 1,
-            place: 0,
-        };
-        let mut expected = Digest::default();
-        expected.take_all(&[115u16, 1, 0, 7, 7, 7]);
-        assert_eq!(of(Err(refusal)), expected);
     }
 }

@@ -7,6 +7,21 @@ pub struct Row {
     pub label: u16,
 }
 
+/// The rows of a table's words, two a node.
+pub fn rows_of(words: &[u16]) -> Vec<Row> {
+    let row = |pair: &[u16]| Row {
+        parent: usize::from(pair[0]),
+        label: pair[1],
+    };
+    words.chunks(2).map(row).collect()
+}
+
+/// The words of a table's rows.
+pub fn words_of(table: &[Row]) -> Vec<u16> {
+    let pair = |row: &Row| [row.parent as u16, row.label];
+    table.iter().flat_map(pair).collect()
+}
+
 /// A node with links up and down.
 #[derive(Clone, Debug)]
 pub struct Node {

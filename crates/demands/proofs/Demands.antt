@@ -55,6 +55,10 @@ use Rattle.text_names.specs.Names.{lines}
 use Rattle.text_names.proofs.Lists.{list-right, right-list}
 use Rattle.text_pattern.specs.Meaning.{stepsOf, wordsOf as patternOf, textOf}
 use Rattle.text_pattern.proofs.Returning.{length-words}
+use Rattle.text_xml.specs.Tags.{treeText}
+use Rattle.text_xml.proofs.Decimal.{decimal-right, decimal-only}
+use Rattle.text_xml.proofs.Tags.{child-child, each-same-way, only-way}
+use Rattle.text_xml.proofs.Bytes.{tree-bytes}
 use Rattle.text_printer.proofs.Settled.{printed-one}
 use Rattle.text_printer.proofs.Enough.{room-enough}
 use Rattle.text_printer.proofs.Behind.{prints-first}
@@ -62,6 +66,7 @@ use Rattle.demands.specs.Demands.{DemandOne, DemandTwo, Start, DemandThr
 use Rattle.demands.proofs.Numbering.{stops}
 use Rattle.demands.proofs.Orders as orders
 use Rattle.demands.proofs.Texts.{lists-place, list-lines, texts, texts-place, text-steps, written-reads, read-writes}
+use Rattle.demands.proofs.Tags.{tags-enough, tags-reached, witness-text}
 use Rattle.demands.proofs.Updates.{deleted-by, all-deleted-by, inserted-by}
 use Rattle.demands.proofs.Agreeing.{readings-agree}
 use Rattle.demands.proofs.Keeping.{keeps-order, order-keeps}
@@ -85,6 +90,7 @@ demand-one =
       lines-out = orders.lines-out;
       patterns-in = orders.patterns-in;
       patterns-out = orders.patterns-out;
+      trees-out = orders.trees-out;
       lists = λ l. (list-right l, right-list l);
       lists-place = lists-place;
       texts = texts;
@@ -216,6 +222,14 @@ besides =
       text-steps = text-steps;
       written-reads = written-reads;
       read-writes = read-writes;
+      tags-children = child-child;
+      tags-each = λ t sound. each-same-way t (sound .parents);
+      tags-only = λ t sound. only-way t (sound .parents);
+      tags-decimal = λ n some s. ((λ e. rw e (decimal-right n some)), decimal-only n s some);
+      tags-bytes = tree-bytes;
+      tags-enough = tags-enough;
+      tags-reached = tags-reached;
+      witness-text = witness-text;
       clear-stays = λ r u before after h. h .kept;
       witness-behind = λ r u before after n h. (h .long, h .behind);
       marks-behind = λ p d marks n h. (delete-length p d h, delete-behind p d h);
@@ -226,6 +240,7 @@ besides =
       bytes-behind = λ s before after n h. behind (h .text) before (h .answered .1) (h .answered .2);
       pattern-behind = λ l s before after n h. behind (patternOf (lines l) (stepsOf s)) before (h .1 ∙ sym (length-words (lines l) (stepsOf s))) (h .2);
       text-behind = λ l p before after n h. behind (textOf (lines l) p) before (h .1) (h .2);
+      tags-behind = λ t before after n h. behind (treeText t) before (h .1) (h .2);
       output-enough = λ s before after why h. room-enough h refl;
       input-enough = prints-first;
       examples = marked;

@@ -2,6 +2,7 @@
 pub mod Numbering
 pub mod Orders
 pub mod Texts
+pub mod Tags
 pub mod Updates
 pub mod Agreeing
 pub mod Keeping

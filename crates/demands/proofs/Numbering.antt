@@ -6,7 +6,7 @@ use native.Mathlib.Omega.{arith}
 use mathlib.Core.Path.{_≡_, refl}
 use lib.Dec.{T, leb, ltb, lit≤}
 use lib.ListN.{length}
-use Rattle.tables.specs.Limits.{stepLimit}
+use Rattle.tables.specs.Limits.{stepLimit, treeLimit}
 use Rattle.tables.specs.Documents.{Doc}
 use Rattle.tables.specs.declared.refusal.Refusal.{Refusal}
 use Rattle.tables.specs.declared.refusal.Checked.{Checked}
@@ -26,6 +26,8 @@ use Rattle.text_pattern.specs.Texts.{Step}
 use Rattle.text_pattern.specs.Meaning.{textCheck, listed}
 use Rattle.text_pattern_in.specs.Reading.{listedCheck, readTextCheck}
 use Rattle.text_pattern_out.specs.Writing.{numberCheck, writeTextCheck}
+use Rattle.text_xml.specs.Tags.{treeText}
+use Rattle.text_xml_out.specs.Writing.{writeTreeCheck}
 use Rattle.text_printer.specs.Printer.{takeCheck, Lines, bad, good, stopped}
 use Rattle.demands.specs.Demands.{Numbered}
 
@@ -193,6 +195,10 @@ unfolding writeTextCheck numberCheck
 patterns-out l p room =
     chained (listCheck l) _ (lists l)
     (chained (patternCheck p stepLimit 1) _ (patterns p stepLimit 1) (search (chained, tested, walked, outputs)))
+
+pub trees-out : (t : List ℕ) (room : ℕ) → OnlyNumbered (writeTreeCheck t room)
+unfolding writeTreeCheck
+trees-out t room = chained (treeCheck t treeLimit 5) _ (trees t treeLimit 5) (outputs (length (treeText t)) room)
 
 -- in lines one after another
 taken : (l : List ℕ) (n : ℕ) (b : List ℕ) → OnlyNumbered (takeCheck l n b)

@@ -50,6 +50,7 @@ use Rattle.outcomes.specs.declared.texts.Spelled.{Spelled}
 use Rattle.outcomes.specs.declared.texts.Spelled.the-variants as spelled
 use Rattle.text_pattern_in.specs.Reading.{readTextCheck, ReadText}
 use Rattle.text_pattern_out.specs.Writing.{writeTextCheck, WriteText}
+use Rattle.text_xml_out.specs.Writing.{writeTreeCheck, WriteTree}
 use Rattle.text_printer.specs.Printer.{PrintedAs}
 use Rattle.outcomes.specs.declared.texts.Printed.{Printed}
 use Rattle.outcomes.specs.declared.texts.Printed.the-variants as printed
@@ -180,6 +181,13 @@ patterns-out l p before after a = told one
     one : (x : Printed) → WriteText l p before after x → ByOrder (writeTextCheck l p (length before)) (ofPrinted x) (after ≡ before)
     one (printed.Bytes n) h = was-fine (h .0) refl
     one (printed.Refused why) h = was-refused (numbering.patterns-out l p (length before)) (h .0) (h .1)
+
+pub trees-out : (t before after : List ℕ) (a : Answer) → Told ofPrinted (WriteTree t before after) a → ByOrder (writeTreeCheck t (length before)) a (after ≡ before)
+trees-out t before after a = told one
+  where
+    one : (x : Printed) → WriteTree t before after x → ByOrder (writeTreeCheck t (length before)) (ofPrinted x) (after ≡ before)
+    one (printed.Bytes n) h = was-fine (h .0) refl
+    one (printed.Refused why) h = was-refused (numbering.trees-out t (length before)) (h .0) (h .1)
 
 pub prints : (s before after : List ℕ) (answer : Printed) (h : PrintedAs s before after answer) → ByOrder (outputCheck (length (h .text)) (length before)) (ofPrinted answer) (after ≡ before)
 prints s before after (printed.Bytes n) h = was-fine (h .answered .0) refl

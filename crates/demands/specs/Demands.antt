@@ -5,7 +5,7 @@
 --   DemandThree   the plan; a batch run call by call, in any order that keeps the plan
 --   EitherOrder   deletes one after another, in any order
 --   Besides       what else the documents say of the calls: deep verdicts, plans, the two readings, the walker, patterns as text,
---                 what stays, the program's two numbers, P1 to P15
+--                 trees as tags, what stays, the program's two numbers, P1 to P15
 --
 -- A call is named by its promise: Read, Delete, Insert, NodeVerdict, DeepVerdict, Plan and so on, each over what is lent to it before and after.
 -- Told says that an exported function returns the numbers of an answer that meets such a promise. Demands/Names.antt says where each name of this page
@@ -55,6 +55,7 @@ pub record DemandOne : Type 0 where
       ByOrder (outputCheck (4 * length ws) (length before)) a (after ≡ before)
   pub patterns-in : (l s before after : List ℕ) (a : Answer) → Told ofParsed (ReadText l s before after) a → ByOrder (readTextCheck l s (length before)) a (after ≡ before)
   pub patterns-out : (l p before after : List ℕ) (a : Answer) → Told ofPrinted (WriteText l p before after) a → ByOrder (writeTextCheck l p (length before)) a (after ≡ before)
+  pub trees-out : (t before after : List ℕ) (a : Answer) → Told ofPrinted (WriteTree t before after) a → ByOrder (writeTreeCheck t (length before)) a (after ≡ before)
   -- a list is refused exactly if it is no list of names, by the first entry at which it breaks; a text exactly if it is no right text, by the length of
   -- its longest start that some right text has
   pub lists : (l : List ℕ) → (listCheck l ≡ Fine) ↔ NameList l
@@ -203,6 +204,20 @@ pub record Besides : Type 0 where
       (words after : List ℕ) (answer : Parsed) → ReadText l (take n text) words after answer → length p ≤ length words → (answer ≡ parsed.Words (length p)) × (take (length p) after ≡ p)
   pub read-writes : (l s words pattern : List ℕ) (n : ℕ) → ReadText l s words pattern (parsed.Words n) →
       (before after : List ℕ) (answer : Printed) → WriteText l (take n pattern) before after answer → length s ≤ length before → (answer ≡ printed.Bytes (length s)) × (take (length s) after ≡ s)
+  -- trees as tags: each node is written the same way with its own children inside it, and the nodes can be written so in one way only; a label is written in
+  -- decimal, and in no other way
+  pub tags-children : (t : List ℕ) (v c : ℕ) → (childOf t v c ≡ true) ↔ Child t v c
+  pub tags-each : (t : List ℕ) → Sound (bare t) → (v : ℕ) → v < nodes t → tagsOf t v ≡ elementOf (tag t v) (tagsOf t) (children t v)
+  pub tags-only : (t : List ℕ) → Sound (bare t) → (text : ℕ → List ℕ) → ((v : ℕ) → v < nodes t → text v ≡ elementOf (tag t v) text (children t v)) →
+      (v : ℕ) → v < nodes t → text v ≡ tagsOf t v
+  pub tags-decimal : (n : ℕ) → 0 < n → (s : List ℕ) → (s ≡ decimal n) ↔ Decimal n s
+  -- a text is as long as its nodes, added up; 17 bytes a node less 8 are always enough, and for a tree of each size none of them can be spared
+  pub tags-bytes : (t : List ℕ) → Sound (bare t) → length (treeText t) ≡ treeBytes t
+  pub tags-enough : (t before after : List ℕ) (why : Refusal) → Bits16 t → treeCheck t treeLimit 5 ≡ Fine → 17 * nodes t ≤ length before + 8 → WriteTree t before after (printed.Refused why) → ⊥
+  pub tags-reached : (n : ℕ) → 0 < n → (t : List ℕ) × Sound (bare t) × (nodes t ≡ n) × (treeBytes t + 8 ≡ 17 * n)
+  -- so every witness has a text
+  pub witness-text : (r : List ℕ) (u : Update) (before after : List ℕ) (n : ℕ) → NodeVerdict r u before after (verdict.Conflict n) →
+      (room text : List ℕ) (answer : Printed) → WriteTree (take (2 * n) after) room text answer → 17 * n ≤ length room + 8 → answer ≡ printed.Bytes (treeBytes (take (2 * n) after))
   -- with no conflict every output word stays, and behind any result all stays: behind a witness, a plan, marks, words and bytes
   pub clear-stays : (r : List ℕ) (u : Update) (before after : List ℕ) → NodeVerdict r u before after verdict.Clear → after ≡ before
   pub witness-behind : (r : List ℕ) (u : Update) (before after : List ℕ) (n : ℕ) → NodeVerdict r u before after (verdict.Conflict n) →
@@ -217,6 +232,7 @@ pub record Besides : Type 0 where
   pub bytes-behind : (s before after : List ℕ) (n : ℕ) → PrintedAs s before after (printed.Bytes n) → drop n after ≡ drop n before
   pub pattern-behind : (l s before after : List ℕ) (n : ℕ) → ReadText l s before after (parsed.Words n) → drop n after ≡ drop n before
   pub text-behind : (l p before after : List ℕ) (n : ℕ) → WriteText l p before after (printed.Bytes n) → drop n after ≡ drop n before
+  pub tags-behind : (t before after : List ℕ) (n : ℕ) → WriteTree t before after (printed.Bytes n) → drop n after ≡ drop n before
   -- the program's two numbers: so many bytes of output are always enough, and behind so many bytes of input nothing changes what is printed
   pub output-enough : (s before after : List ℕ) (why : Refusal) → PrintedAs s before after (printed.Refused why) → printedMost ≤ length before → ⊥
   pub input-enough : (s text : List ℕ) → Prints s text ↔ Prints (take inputMost s) text

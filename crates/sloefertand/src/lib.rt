@@ -4,4 +4,5 @@ pub mod checking;
 pub mod operations;
 pub mod patterns;
 pub mod texts;
+pub mod trees;
 pub mod verdicts;

@@ -229,7 +229,28 @@ module _ (d : Doc) (e : documentCheck d ≡ Fine) where
             rw (lt-ltb (parent (d .rows) v) (d .used) (omega (arith, falls v some h)), above);
       }
 
--- and back: a sound document meets no refusal where it has at most 4,096 used nodes, a mark for each of them, and marks 0 and 1
+-- and back: the nodes of a sound document are right
+module _ (d : Doc) (sound : Sound d) where
+  parent-accepted : (v : ℕ) → v < d .used → parentRight (d .rows) v ≡ true
+  unfolding parentRight
+  parent-accepted zero h = rw (sound .top)
+  parent-accepted (suc v) h = rw (ne-eqb (suc v) 0 (λ e. omega arith), lt-ltb (parent (d .rows) (suc v)) (suc v) (sound .parents (suc v) (omega arith) h))
+
+  nodes-accepted : (table : ℕ) → each (nodeCheck (d .rows) table) 0 (d .used) ≡ Fine
+  unfolding nodeCheck
+  nodes-accepted table =
+      each-all (nodeCheck (d .rows) table) 0 (d .used) (λ v h. rw (zero-add, parent-accepted v h, lt-ltb 0 (tag (d .rows) v) (sound .named v h)))
+
+-- a sound tree of whole pairs, within the limit, is accepted
+pub tree-fine : (t : List ℕ) (limit table : ℕ) → Sound (bare t) → 2 * nodes t ≡ length t → nodes t ≤ limit → treeCheck t limit table ≡ Fine
+unfolding treeCheck sizeCheck
+tree-fine t limit table sound whole few =
+    let some : 0 < nodes t = ltb-true 0 (nodes t) (and-first (ltb 0 (nodes t)) (eqb (mark (bare t) 0) 0) (sound .root)) in
+    let even : length t % 2 ≡ 0 = omega (arith, whole) in
+    rw (lt-ltb 0 (length t) (omega (arith, whole, some)), eq-eqb (length t % 2) 0 even, le-leb (length t / 2) limit few)
+    (nodes-accepted (bare t) sound table)
+
+-- a sound document meets no refusal where it has at most 4,096 used nodes, a mark for each of them, and marks 0 and 1
 module _ (d : Doc) (sound : Sound d) (most : d .used ≤ usedLimit) (marks : d .used ≤ length (d .marks)) (bits : (v : ℕ) → v < d .used → mark d v ≤ 1) where
   root-here : (0 < d .used) × (mark d 0 ≡ 0)
   root-here = (
@@ -241,15 +262,6 @@ module _ (d : Doc) (sound : Sound d) (most : d .used ≤ usedLimit) (marks : d .
   unfolding usedCheck usedRight
   used-accepted =
       rw (lt-ltb 0 (d .used) (root-here .0), le-leb (d .used) usedLimit most, le-leb (d .used) (length (d .rows) / 2) (sound .room), le-leb (d .used) (length (d .marks)) marks)
-
-  parent-accepted : (v : ℕ) → v < d .used → parentRight (d .rows) v ≡ true
-  unfolding parentRight
-  parent-accepted zero h = rw (sound .top)
-  parent-accepted (suc v) h = rw (ne-eqb (suc v) 0 (λ e. omega arith), lt-ltb (parent (d .rows) (suc v)) (suc v) (sound .parents (suc v) (omega arith) h))
-
-  node-accepted : (v : ℕ) → v < d .used → nodeCheck (d .rows) 5 v ≡ Fine
-  unfolding nodeCheck
-  node-accepted v h = rw (parent-accepted v h, lt-ltb 0 (tag (d .rows) v) (sound .named v h))
 
   -- a node that is not removed has a parent that is not removed, so its mark is not less than its parent's
   above-accepted : (v : ℕ) → 0 < v → v < d .used → mark d (parent (d .rows) v) ≤ mark d v
@@ -279,6 +291,6 @@ module _ (d : Doc) (sound : Sound d) (most : d .used ≤ usedLimit) (marks : d .
   sound-accepted =
       rw (
         used-accepted,
-        each-all (nodeCheck (d .rows) 5) 0 (d .used) (λ v h. rw zero-add (node-accepted v h)),
+        nodes-accepted d sound 5,
         each-all (markCheck (d .rows) (d .marks)) 0 (d .used) (λ v h. rw zero-add (mark-accepted v h)),
       )

@@ -39,7 +39,7 @@ struct Way {
 }
 
 // The number after another.
-fn moved(s: usize) -> usize {
+pub(crate) fn moved(s: usize) -> usize {
     (s % 65537 * 75 + 74) % 65537
 }
 
@@ -65,7 +65,7 @@ fn name(x: usize) -> usize {
 }
 
 // One to three nodes before node v, and at least 0.
-fn before(v: usize, x: usize) -> usize {
+pub(crate) fn before(v: usize, x: usize) -> usize {
     let back = x % 3 + 1;
     if v < back {
         return 0;

@@ -1,4 +1,4 @@
-// Everything small, and some long reads, over the proved library, by the functions that other languages link: the seven tables that the second program prints too. `stdout` holds what that program printed.
+// Everything small, and some long reads and large trees, over the proved library, by the functions that other languages link: the eight tables that the second program prints too. `stdout` holds what that program printed.
 mod damage;
 mod digest;
 mod either_order;
@@ -15,6 +15,8 @@ mod tally;
 mod text_lists;
 mod text_patterns;
 mod texts;
+mod tree_tables;
+mod tree_tags;
 mod two_damages;
 
 fn main() {
@@ -25,4 +27,5 @@ fn main() {
     texts::table();
     either_order::table();
     long_reads::table();
+    tree_tags::table();
 }

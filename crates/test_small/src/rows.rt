@@ -3,7 +3,7 @@ use tables::words::byte;
 use tables::words::word;
 
 // A row's number behind its first element.
-fn behind(k: usize, kinds: usize) -> usize {
+pub(crate) fn behind(k: usize, kinds: usize) -> usize {
     if kinds == 0 {
         return 0;
     }
@@ -11,7 +11,7 @@ fn behind(k: usize, kinds: usize) -> usize {
 }
 
 // Its first element, as a number below the kinds.
-fn first(k: usize, kinds: usize) -> usize {
+pub(crate) fn first(k: usize, kinds: usize) -> usize {
     if kinds == 0 {
         return 0;
     }

@@ -18,6 +18,7 @@ use sloefertand::patterns::sloefertand_write_pattern;
 use sloefertand::texts::sloefertand_print;
 use sloefertand::texts::sloefertand_read_line;
 use sloefertand::texts::sloefertand_write_line;
+use sloefertand::trees::sloefertand_write_tree;
 use sloefertand::verdicts::sloefertand_deep_delete_verdict;
 use sloefertand::verdicts::sloefertand_deep_insert_verdict;
 use sloefertand::verdicts::sloefertand_delete_verdict;
@@ -133,8 +134,18 @@ pub(crate) fn pattern(name: &[u8], l: &[u8], r: &[u16], t: &mut [u16], m: &[u8],
     }
 }
 
-// The printed plan, and its bytes as they stand on lines of their own.
-pub(crate) fn print(name: &[u8], m: &[u8], y: &mut [u8]) {
+// A tree as tags, and the printed plan: where a tree is written, and for every plan, the bytes as they stand on lines of their own.
+pub(crate) fn print(name: &[u8], x: &[u16], m: &[u8], y: &mut [u8]) {
+    if same(name, b"write tree") {
+        let a = sloefertand_write_tree(x, y);
+        answer(a, 1);
+        if a.refusal != 0 {
+            return;
+        }
+        text(b"\n");
+        text(front(y, a.first));
+        return;
+    }
     if same(name, b"print") {
         let a = sloefertand_print(m, y);
         answer(a, 1);

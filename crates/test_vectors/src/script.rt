@@ -160,7 +160,7 @@ fn ask(
     calls::plan(name, x, t, u, v);
 }
 
-// A line, a pattern's text, a printed plan or an update; the number u after it.
+// A line, a pattern's or a tree's text, a printed plan or an update; the number u after it.
 fn tell(
     name: &[u8],
     r: &[u16],
@@ -174,7 +174,7 @@ fn tell(
 ) -> usize {
     calls::spell(name, x, t, m, u, y);
     calls::pattern(name, l, r, t, m, y);
-    calls::print(name, m, y);
+    calls::print(name, x, m, y);
     calls::delete(name, p, t, m, u);
     calls::insert(name, p, x, t, m, u)
 }

@@ -9,7 +9,8 @@ pub use mathlib.Core.List.{List, [], _∷_, map, Perm}
 pub use mathlib.Core.Logic.{_↔_}
 pub use lib.ListN.{length, getD, take, drop}
 -- words of tables, documents, refusals; the checks of patterns, trees and documents are promised by the functions of those names
-pub use Rattle.tables.specs.Words.{steps, nodes, Bits16}
+pub use Rattle.tables.specs.Limits.{treeLimit}
+pub use Rattle.tables.specs.Words.{steps, nodes, tag, Bits16}
 pub use Rattle.tables.specs.Patterns.{Pattern}
 pub use Rattle.tables.specs.Documents.{Doc, doc, bare, mark, present, Sound}
 pub use Rattle.tables.specs.declared.refusal.Refusal.{Refusal}
@@ -72,6 +73,11 @@ pub use Rattle.text_pattern.specs.Meaning.{stepsOf, textCheck}
 pub use Rattle.text_pattern_in.specs.Reading.{readTextCheck, ReadText}
 pub use Rattle.text_pattern_out.specs.Writing.{writeTextCheck, WriteText}
 pub use Rattle.outcomes.specs.declared.texts.Parsed.{Parsed}
+-- trees as tags: WriteTree is promised by write_tree
+pub use Rattle.selection.specs.Embeddings.{Child}
+pub use Rattle.text_xml.specs.Decimal.{decimal, Decimal}
+pub use Rattle.text_xml.specs.Tags.{childOf, children, elementOf, tagsOf, treeText, treeBytes}
+pub use Rattle.text_xml_out.specs.Writing.{writeTreeCheck, WriteTree}
 -- the printer: PrintedAs is promised by print
 pub use Rattle.text_printer.specs.Printer.{Lines, stopped, Prints, PrintedAs}
 pub use Rattle.text_printer.specs.Enough.{printedMost, inputMost}
