@@ -1,8 +1,9 @@
 //! How each grows from small to full size.
 
 use crate::documents::Document;
+use crate::inputs::{chain, random_tree};
 use crate::measure::text;
-use crate::rows::{delete_verdict, insert_verdict, plan, read_document, reads};
+use crate::rows::{delete_verdict, insert_verdict, plan, read_document, reads, write_tree, LABELS};
 
 /// A size: its time, and how much more than at the size before.
 fn print_size(what: &str, size: usize, times: &[f64], before: &mut Option<f64>) {
@@ -32,6 +33,12 @@ pub fn print() {
         insert_verdict(64, n)
     });
     print_sizes("plan, frames of 63 steps", &[8, 16, 32, 64, 128], |n| plan(n, 63));
+    print_sizes("tags, nodes of a random tree", &[32, 64, 128, 256], |n| {
+        write_tree(&random_tree(n, LABELS))
+    });
+    print_sizes("tags, nodes of a chain", &[32, 64, 128, 256], |n| {
+        write_tree(&chain(n, LABELS))
+    });
     let read = &reads()[1];
     print_sizes(
         "read of 4 steps, nodes of a random tree",

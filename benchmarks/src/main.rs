@@ -1,5 +1,5 @@
 //! The proved library beside peers, in one run on the same inputs: a straightforward Rust program of the same algorithm and,
-//! for reads, libxml2's XPath. Prints two tables in Markdown, and a third where another build of the library is there too.
+//! for reads and tags, libxml2. Prints two tables in Markdown, and a third where another build of the library is there too.
 
 #[cfg(feature = "before")]
 mod before;

@@ -81,6 +81,7 @@ extern "C" {
         witness_words: usize,
     ) -> Answer;
     fn sloefertand_plan(batch: *const u16, batch_words: usize, plan: *mut u16, plan_words: usize) -> Answer;
+    fn sloefertand_write_tree(tree: *const u16, tree_words: usize, text: *mut u8, text_bytes: usize) -> Answer;
 }
 
 /// A count, or the number of a refusal.
@@ -130,4 +131,10 @@ pub fn insert_verdict(read: &[u16], update: &[u16], tree: &[u16], witness: &mut 
 pub fn plan(batch: &[u16], plan: &mut [u16]) -> Counted {
     // As in `read`.
     counted(unsafe { sloefertand_plan(batch.as_ptr(), batch.len(), plan.as_mut_ptr(), plan.len()) })
+}
+
+/// A tree as nested tags; the number of bytes.
+pub fn write_tree(tree: &[u16], text: &mut [u8]) -> Counted {
+    // As in `read`.
+    counted(unsafe { sloefertand_write_tree(tree.as_ptr(), tree.len(), text.as_mut_ptr(), text.len()) })
 }

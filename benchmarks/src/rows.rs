@@ -1,10 +1,13 @@
 //! The rows at full size.
 
 use crate::documents::{read, Document, Read};
-use crate::inputs::{batch, depth, descending, random_tree};
+use crate::inputs::{batch, chain, depth, descending, random_tree};
 use crate::measure::{fastest, text};
 use crate::{peer, proved};
 use std::hint::black_box;
+
+/// Labels of the trees that are written as tags.
+pub const LABELS: usize = 65535;
 
 /// Room for any witness.
 pub const WITNESS: usize = 254;
@@ -129,6 +132,45 @@ fn xpath_time(_: &[u16], _: &str, _: &[u8]) -> Option<f64> {
     None
 }
 
+/// A tree written as tags, beside the peer and libxml2.
+pub fn write_tree(tree: &[u16]) -> Vec<f64> {
+    let room = 17 * tree.len() / 2;
+    let (mut a, mut b) = (vec![0; room], vec![0; room]);
+    let bytes = proved::write_tree(tree, &mut a).expect("the tree is written");
+    assert_eq!(peer::tags::write_tree(tree, &mut b), Ok(bytes));
+    assert_eq!(a, b);
+    let text = a[..bytes].to_vec();
+    let mut times = {
+        let mut ours = || {
+            let _ = black_box(proved::write_tree(black_box(tree), &mut a));
+        };
+        let mut theirs = || {
+            let _ = black_box(peer::tags::write_tree(black_box(tree), &mut b));
+        };
+        fastest(&mut [&mut ours, &mut theirs])
+    };
+    times.extend(tags_time(tree, &text));
+    times
+}
+
+/// libxml2's time to write the same text of its own tree.
+#[cfg(feature = "libxml2")]
+fn tags_time(rows: &[u16], text: &[u8]) -> Option<f64> {
+    let tree = crate::xpath::Tree::of(rows);
+    let mut tags = crate::xpath::Tags::with_room(2 * text.len());
+    assert_eq!(tags.of(&tree), text);
+    let mut dump = || {
+        black_box(tags.of(black_box(&tree)));
+    };
+    fastest(&mut [&mut dump]).pop()
+}
+
+/// Without libxml2 there is none.
+#[cfg(not(feature = "libxml2"))]
+fn tags_time(_: &[u16], _: &[u8]) -> Option<f64> {
+    None
+}
+
 /// The reads that are timed.
 pub fn reads() -> Vec<Read> {
     vec![
@@ -140,7 +182,7 @@ pub fn reads() -> Vec<Read> {
 
 /// The table.
 pub fn print() {
-    println!("| what | proved library | Rust peer | proved / peer | libxml2 XPath | libxml2 / proved |");
+    println!("| what | proved library | Rust peer | proved / peer | libxml2 | libxml2 / proved |");
     println!("|---|---|---|---|---|---|");
     print_row(
         "verdict, 64 against 64 steps, witness of 127 nodes",
@@ -151,6 +193,14 @@ pub fn print() {
         &insert_verdict(64, 256),
     );
     print_row("plan, 128 frames of 63 steps, 4,096 verdicts", &plan(128, 63));
+    print_row(
+        "tags, random tree, 256 nodes, labels to 5 digits",
+        &write_tree(&random_tree(256, LABELS)),
+    );
+    print_row(
+        "tags, chain, 256 nodes, labels to 5 digits",
+        &write_tree(&chain(256, LABELS)),
+    );
     for document in Document::all() {
         let mut all = reads();
         all.push(read_of_64_steps());

@@ -1,6 +1,6 @@
-//! libxml2's XPath on the same tree, called through its C interface. Only what is used here is declared.
+//! libxml2's XPath and its tags on the same tree, called through its C interface. Only what is used here is declared.
 
-use std::ffi::{c_char, c_int, c_void, CString};
+use std::ffi::{c_char, c_int, c_uint, c_void, CString};
 use std::ptr;
 
 /// The front of a node: a pointer for the application, here the node's number.
@@ -24,6 +24,13 @@ struct Object {
     nodes: *mut NodeSet,
 }
 
+/// The front of a buffer.
+#[repr(C)]
+struct Buffer {
+    content: *mut u8,
+    used: c_uint,
+}
+
 #[link(name = "xml2")]
 extern "C" {
     fn xmlNewDoc(version: *const c_char) -> *mut c_void;
@@ -37,6 +44,11 @@ extern "C" {
     fn xmlXPathFreeCompExpr(path: *mut c_void);
     fn xmlXPathCompiledEval(path: *mut c_void, context: *mut c_void) -> *mut Object;
     fn xmlXPathFreeObject(object: *mut Object);
+    fn xmlDocGetRootElement(document: *mut c_void) -> *mut Node;
+    fn xmlBufferCreateSize(bytes: usize) -> *mut Buffer;
+    fn xmlBufferEmpty(buffer: *mut Buffer);
+    fn xmlBufferFree(buffer: *mut Buffer);
+    fn xmlNodeDump(buffer: *mut Buffer, document: *mut c_void, node: *mut Node, level: c_int, format: c_int) -> c_int;
 }
 
 /// A path, compiled once.
@@ -126,6 +138,35 @@ impl Tree {
             }
         });
         row
+    }
+}
+
+/// A buffer of libxml2's for the tags of a tree.
+pub struct Tags(*mut Buffer);
+
+impl Tags {
+    /// One with room for so many bytes.
+    pub fn with_room(bytes: usize) -> Tags {
+        // The buffer is freed once, by `drop`.
+        Tags(unsafe { xmlBufferCreateSize(bytes) })
+    }
+
+    /// The tags of a tree, written anew.
+    pub fn of(&mut self, tree: &Tree) -> &[u8] {
+        // The document and its root are live; what was written lies in the buffer until it is emptied.
+        unsafe {
+            xmlBufferEmpty(self.0);
+            let bytes = xmlNodeDump(self.0, tree.document, xmlDocGetRootElement(tree.document), 0, 0);
+            assert!(bytes >= 0, "libxml2 writes the tags");
+            std::slice::from_raw_parts((*self.0).content, (*self.0).used as usize)
+        }
+    }
+}
+
+impl Drop for Tags {
+    fn drop(&mut self) {
+        // Made by `with_room`, freed once.
+        unsafe { xmlBufferFree(self.0) }
     }
 }
 

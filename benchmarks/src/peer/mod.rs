@@ -5,11 +5,12 @@ pub mod entering;
 pub mod meeting;
 pub mod plan;
 pub mod read;
+pub mod tags;
 pub mod verdict;
 
 /// Steps of a pattern at most.
 pub const STEPS: usize = 64;
-/// Nodes of an inserted tree at most.
+/// Nodes of an inserted tree at most, and of one that is written as tags.
 pub const TREE_NODES: usize = 256;
 /// Nodes in use of a document at most.
 pub const USED: usize = 4096;

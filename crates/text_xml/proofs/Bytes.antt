@@ -15,7 +15,7 @@ use Rattle.selection.proofs.Lists.{below-suc, length-tab, getD-tab, length-risi
 use Rattle.selection.proofs.Presence.{is-present, present-used}
 use Rattle.text_xml.specs.Decimal.{decimal}
 use Rattle.text_xml.specs.Tags.{startTag, endTag, childOf, children, inTurn, elementOf, tagsOf, treeText, ownBytes, sumTo, treeBytes}
-use Rattle.text_xml.proofs.Decimal.{decimal-word, decimal-five}
+use Rattle.text_xml.proofs.Decimal.{decimal-word, length-five}
 use Rattle.text_xml.proofs.Tags.{length-short, length-start, length-end, child-child, turn-append, child-behind, each-same-way}
 
 sum-ext : (f g : ℕ → ℕ) (n : ℕ) → ((i : ℕ) → i < n → f i ≡ g i) → sumTo f n ≡ sumTo g n
@@ -187,7 +187,7 @@ module _ (n : ℕ) where
         rw (getD-tab chainWord (2 * n) (2 * v + 1) (omega arith), odd)
 
     chain-digits : length (decimal (tag (chainOf n) v)) ≡ 5
-    chain-digits = rw chain-tag (decimal-five 65535 (lit≤ tt) (lit< tt))
+    chain-digits = rw chain-tag (length-five 65535 (lit≤ tt) (lit< tt))
 
   -- the next node is a child
   chain-inner : (v : ℕ) → suc v < n → own (chainOf n) v ≡ 17

@@ -53,6 +53,31 @@ length-small n h = rw (decimal-small n h)
 pub length-more : (n : ℕ) → 10 ≤ n → length (decimal n) ≡ suc (length (decimal (n / 10)))
 length-more n h = rw (decimal-more n h, length-append) (add-one _)
 
+pub length-two : (n : ℕ) → 10 ≤ n → n < 100 → length (decimal n) ≡ 2
+length-two n h l = rw (length-more n h, length-small (n / 10) (omega arith))
+
+pub length-three : (n : ℕ) → 100 ≤ n → n < 1000 → length (decimal n) ≡ 3
+length-three n h l = rw (length-more n (omega arith), length-two (n / 10) (omega arith) (omega arith))
+
+pub length-four : (n : ℕ) → 1000 ≤ n → n < 10000 → length (decimal n) ≡ 4
+length-four n h l = rw (length-more n (omega arith), length-three (n / 10) (omega arith) (omega arith))
+
+pub length-five : (n : ℕ) → 10000 ≤ n → n < 100000 → length (decimal n) ≡ 5
+length-five n h l = rw (length-more n (omega arith), length-four (n / 10) (omega arith) (omega arith))
+
+pub length-beyond : (n : ℕ) → 100000 ≤ n → length (decimal n) ≡ length (decimal (n / 100000)) + 5
+length-beyond n h =
+    let tenths : n / 10 / 10 / 10 / 10 / 10 ≡ n / 100000 = omega arith in
+    rw
+    (length-more n (omega arith), length-more (n / 10) (omega arith), length-more (n / 10 / 10) (omega arith), length-more (n / 10 / 10 / 10) (omega arith), length-more (n / 10 / 10 / 10 / 10) (omega arith), tenths)
+    (omega arith)
+
+pub length-some : (n : ℕ) → 0 < length (decimal n)
+length-some = by-digits (λ n s. 0 < length s) (λ n h. omega arith) (λ n s h some. rw length-append (omega arith))
+
+pub length-least : (n : ℕ) → length (decimal n) ≤ n + 1
+length-least = by-digits (λ n s. length s ≤ n + 1) (λ n h. omega arith) (λ n s h least. rw length-append (omega arith))
+
 -- one digit more than a tenth has, at the most
 length-most : (n k : ℕ) → length (decimal (n / 10)) ≤ k → length (decimal n) ≤ suc k
 length-most n k h = go (decLt n 10)
@@ -63,16 +88,6 @@ length-most n k h = go (decLt n 10)
 
 pub decimal-word : (n : ℕ) → n < wordLimit → length (decimal n) ≤ 5
 decimal-word n h = length-most n 4 (length-most _ 3 (length-most _ 2 (length-most _ 1 (rw (length-small (n / 10 / 10 / 10 / 10) (omega arith)) (omega arith)))))
-
-pub decimal-five : (n : ℕ) → 10000 ≤ n → n < 100000 → length (decimal n) ≡ 5
-decimal-five n h l =
-    rw (
-      length-more n (omega arith),
-      length-more (n / 10) (omega arith),
-      length-more (n / 10 / 10) (omega arith),
-      length-more (n / 10 / 10 / 10) (omega arith),
-      length-small (n / 10 / 10 / 10 / 10) (omega arith),
-    )
 
 -- a digit behind others
 value-behind : (n : ℕ) (s : List ℕ) (c : ℕ) → valueIn n (s ++ (c ∷ [])) ≡ 10 * valueIn n s + (c - 48)

@@ -1,40 +1,50 @@
--- Digits: how many, and how they are put behind those of a tenth.
-use Prim.Native.Nat.{ℕ, _+_, _/_, _%_, _<_, _≤_}
-use mathlib.Core.Path.{_≡_}
-use mathlib.Core.List.{List}
+-- Digits: how many, and how they are put before those that follow them.
+use Prim.Native.Nat.{ℕ, _+_, _-_, _/_, _%_, _<_, _≤_}
+use mathlib.Core.Path.{_≡_, refl, sym, _∙_}
+use mathlib.Core.List.{List, [], _∷_, _++_, append-nil}
 use native.Mathlib.Omega.{arith}
-use lib.ListN.{length, set}
+use lib.ListN.{length, set, length-append}
+use lib.Seq.{sets, length-sets, append-snoc}
 use Rattle.text_xml.specs.Decimal.{decimal}
-use Rattle.text_xml.proofs.Decimal.{decimal-small, decimal-more, length-small, length-more}
+use Rattle.text_xml.proofs.Decimal.{decimal-small, decimal-more, length-small, length-more, length-some}
 use Rattle.text_xml_out.specs.Places.{Wrote}
-use Rattle.text_xml_out.proofs.Places.{one-byte, wrote-byte, wrote-long, byte-room}
+use Rattle.text_xml_out.proofs.Places.{byte-before}
 
--- counting: what is left has the rest of the digits
-module _ (n k left : ℕ) (e : length (decimal n) + 1 ≡ k + length (decimal left)) where
-  pub count-digit : 10 ≤ left → length (decimal n) + 1 ≡ (k + 1) + length (decimal (left / 10))
-  count-digit h = omega (arith, e, length-more left h)
+-- the last digits of n are written from a place on; before them go those of what is left
+pub record Lasting (n : ℕ) (before : List ℕ) (at : ℕ) (after : List ℕ) (k left : ℕ) : Type 0 where
+  pub tail : List ℕ
+  pub whole : decimal n ≡ decimal left ++ tail
+  pub place : k ≡ at + length (decimal left)
+  pub wrote : after ≡ sets before k tail
 
-  pub counted-digits : left < 10 → k ≡ length (decimal n)
-  counted-digits h = omega (arith, e, length-small left h)
+module _ (n : ℕ) (before : List ℕ) (at : ℕ) where
+  pub none-written : {k : ℕ} → k ≡ at + length (decimal n) → Lasting n before at before k n
+  none-written e = record { tail = []; whole = sym (append-nil (decimal n)); place = e; wrote = refl }
 
-module _ (n : ℕ) (out : List ℕ) (at : ℕ) (room : at + length (decimal n) ≤ length out) where
-  module _ (h : n < 10) where
-    pub digit-room : at < length out
-    digit-room = omega (arith, room, length-small n h)
+  module _ {after : List ℕ} {k left : ℕ} (h : Lasting n before at after k left) where
+    pub digits-long : length after ≡ length before
+    digits-long = rw (h .wrote) (length-sets before k (h .tail))
 
-    pub digit-put : {d : ℕ} → d ≡ 48 + n → Wrote (decimal n) out at (set out at d) (at + 1)
-    digit-put {d} e = rw (decimal-small n h, ← e) (one-byte d out at)
+    pub digits-within : k ≤ at + length (decimal n)
+    digits-within = rw (h .whole, length-append (decimal left) (h .tail)) (omega (arith, h .place))
 
-  module _ (h : 10 ≤ n) where
-    pub tenth-room : at + length (decimal (n / 10)) ≤ length out
-    tenth-room = omega (arith, room, length-more n h)
+    module _ (more : 10 ≤ left) where
+      pub digit-behind : at + 1 < k
+      digit-behind = omega (arith, h .place, length-more left more, length-some (left / 10))
 
-    module _ {after : List ℕ} {to : ℕ} (e : Wrote (decimal (n / 10)) out at after to) where
-      pub last-room : to < length after
-      last-room = byte-room (decimal (n / 10)) out at e (48 + n % 10) (rw (decimal-more n h) at room)
+      pub digit-written : {d : ℕ} → d ≡ 48 + left % 10 → Lasting n before at (set after (k - 1) d) (k - 1) (left / 10)
+      digit-written {d} e =
+          record {
+            tail = d ∷ h .tail;
+            whole = h .whole ∙ rw (decimal-more left more, ← e) (append-snoc (decimal (left / 10)) d (h .tail));
+            place = omega (arith, h .place, length-more left more);
+            wrote = rw (h .wrote) (byte-before (h .tail) before (k - 1) k d (omega (arith, digit-behind)));
+          }
 
-      pub last-sum : to + 1 ≤ length out
-      last-sum = omega (arith, last-room, wrote-long (decimal (n / 10)) out at e)
-
-      pub last-put : {d : ℕ} → d ≡ 48 + n % 10 → Wrote (decimal n) out at (set after to d) (to + 1)
-      last-put {d} q = rw (decimal-more n h, ← q) (wrote-byte (decimal (n / 10)) out at e d)
+    pub all-written : left < 10 → {d : ℕ} → d ≡ 48 + left → {end : ℕ} → end ≡ at + length (decimal n) → Wrote (decimal n) before at (set after at d) end
+    all-written small {d} e long =
+        let first : decimal n ≡ d ∷ h .tail = h .whole ∙ rw (decimal-small left small, ← e) in
+        record {
+          written = rw (first, h .wrote) (byte-before (h .tail) before at k d (omega (arith, h .place, length-small left small)));
+          behind = long;
+        }

@@ -6,7 +6,7 @@ use native.Mathlib.Nat.{add-zero}
 use native.Mathlib.Numerals.{add-one}
 use native.Mathlib.Omega.{arith}
 use lib.ListN.{length, drop, set, length-append}
-use lib.Seq.{sets, length-sets, sets-eq}
+use lib.Seq.{sets, set-comm, length-sets, sets-eq}
 use Rattle.text_xml_out.specs.Places.{Wrote}
 
 sets-then : (xs ys l : List ℕ) (i : ℕ) → sets (sets l i xs) (i + length xs) ys ≡ sets l i (xs ++ ys)
@@ -14,6 +14,14 @@ sets-then [] ys l i = rw (add-zero i)
 sets-then (x ∷ xs) ys l i =
     let same : i + suc (length xs) ≡ suc i + length xs = omega arith in
     rw same (sets-then xs ys (set l i x) (suc i))
+
+-- a byte before what was written
+set-sets : (xs l : List ℕ) (i j c : ℕ) → i < j → set (sets l j xs) i c ≡ sets (set l i c) j xs
+set-sets [] l i j c h = refl
+set-sets (x ∷ xs) l i j c h = set-sets xs (set l j x) i (suc j) c (omega arith) ∙ rw (set-comm l j i x c (λ e. omega arith))
+
+pub byte-before : (xs l : List ℕ) (i j c : ℕ) → j ≡ i + 1 → set (sets l j xs) i c ≡ sets l i (c ∷ xs)
+byte-before xs l i j c e = rw (e, add-one i) (set-sets xs l i (suc i) c (omega arith))
 
 -- nothing is written
 pub wrote-none : (out : List ℕ) (at : ℕ) → Wrote [] out at out at
@@ -27,7 +35,7 @@ byte-then c text out at e =
       behind = omega (arith, e .behind);
     }
 
-pub one-byte : (c : ℕ) (out : List ℕ) (at : ℕ) → Wrote (c ∷ []) out at (set out at c) (at + 1)
+one-byte : (c : ℕ) (out : List ℕ) (at : ℕ) → Wrote (c ∷ []) out at (set out at c) (at + 1)
 one-byte c out at = byte-then c [] out at (wrote-none (set out at c) (at + 1))
 
 module _ (text before : List ℕ) (at : ℕ) {after : List ℕ} {to : ℕ} (e : Wrote text before at after to) where
@@ -48,9 +56,6 @@ module _ (text before : List ℕ) (at : ℕ) {after : List ℕ} {to : ℕ} (e : 
   -- room for what comes behind it
   pub more-room : (more : List ℕ) → at + length (text ++ more) ≤ length before → to + length more ≤ length after
   more-room more h = omega (arith, rw (length-append text more) at h, e .behind, wrote-long)
-
-  pub byte-room : (c : ℕ) → at + length (text ++ (c ∷ [])) ≤ length before → to < length after
-  byte-room c h = omega (arith, more-room (c ∷ []) h)
 
 -- written from the front, where there is room for it
 pub wrote-front : (text before : List ℕ) {after : List ℕ} {n : ℕ} → Wrote text before 0 after n → length text ≤ length before → (n ≡ length text) × (after ≡ text ++ drop n before)

@@ -13,29 +13,41 @@ fn digit_byte(d: usize) -> u8
     (48 + d) as u8
 }
 
-// How many digits a number has.
+// How many digits a number has: of a label at most five, and no call of itself.
 pub(crate) fn digits(n: usize) -> usize
     ensures { λ r. ⌜ r ≡ length (decimal n) ⌝ }
 {
-    let mut k = 1;
-    let mut left = n;
-    while 10 <= left {
-        left = left / 10;
-        k += 1;
+    if n < 10 {
+        return 1;
     }
-    k
+    if n < 100 {
+        return 2;
+    }
+    if n < 1000 {
+        return 3;
+    }
+    if n < 10000 {
+        return 4;
+    }
+    if n < 100000 {
+        return 5;
+    }
+    digits(n / 100000) + 5
 }
 
-// The digits of a number: those of a tenth of it, then the last.
+// The digits of a number, from the last to the first; the place behind them.
 pub(crate) fn put_decimal(n: usize, out: &mut [u8], at: usize) -> usize
     requires { ⌜ at + length (decimal n) ≤ length (now out) ⌝ }
     ensures { λ r. ⌜ Wrote (decimal n) (now (out .entry)) at (now (out .exit)) r ⌝ }
 {
-    if n < 10 {
-        out[at] = digit_byte(n);
-        return at + 1;
+    let end = at + digits(n);
+    let mut k = end;
+    let mut left = n;
+    while 10 <= left {
+        k -= 1;
+        out[k] = digit_byte(left % 10);
+        left = left / 10;
     }
-    let to = put_decimal(n / 10, out, at);
-    out[to] = digit_byte(n % 10);
-    to + 1
+    out[at] = digit_byte(left);
+    end
 }
