@@ -38,18 +38,21 @@
  *    5  a tree label 0                                                              node
  *    6  a delete of one step                                                        0
  *    7  an output that is too short                                                 0
- *    8  a frame whose kind is not 1, 2 or 3                                         frame
- *    9  a frame that ends early; in printed text, also words left over on a line    frame
- *   10  over 128 frames or 16,384 words                                             frame, 0 for words
+ *    8  a frame whose kind is not 1, 2 or 3                                         word
+ *    9  a frame that ends early; in printed text, also words left over on a line    word
+ *   10  over 128 frames or 16,384 words                                             word
  *   11  an insert without room                                                      0
  *   12  a wrong used count or mark                                                  0
  *   13  a malformed line                                                            line
  *   14  a list of names that breaks (table 8)                                       entry
  *       text that is no pattern's (table 7)                                         length of its longest start that fits
  *   15  a name that is not listed; a label without a name                           step
- * Steps, nodes, frames and entries are counted from 0, lines from 1. The table at fault: 1 read, or a pattern on its own,
- * 2 update, 3 inserted tree, 4 output or room, 5 document, 6 batch, 7 text of a pattern, 8 list of names. In a batch the table is 6
- * and the place the frame, except for 7 (table 4, place 0) and for words.
+ * Steps, nodes, words and entries are counted from 0, lines from 1. The table at fault: 1 read, or a pattern on its own, 2 update,
+ * 3 inserted tree, 4 output or room, 5 document, 6 batch, 7 text of a pattern, 8 list of names.
+ * In a batch the table is 6, and the place is a word for every number but 7 (table 4, place 0) and 13: its offset from the start of
+ * the batch. It is the count (1, 2), the axis (3), the parent (4), the label (5), the step count (6), the kind (8), the first word
+ * missing, which is one past the last that is there (9), the start of the frame too many, or 16,384 for words (10). Which frame that
+ * word lies in, a walk tells: sloefertand_step gives each frame before it, and then the same refusal.
  * Each function names its refusals in the order in which it looks for them; the first that applies is given.
  */
 #ifndef SLOEFERTAND_H
@@ -185,10 +188,11 @@ sloefertand_answer sloefertand_read_line(const uint8_t *line, size_t line_bytes,
 sloefertand_answer sloefertand_write_line(const uint16_t *words, size_t words_words, uint8_t *line, size_t line_bytes);
 
 /* From lines, one frame each, to the text that the plan printer prints: a line a frame with its kind, its number from 1 and its
- * plan word; or, at the first line that is refused, only FFFF, that line's number and the refusal's. All three are hexadecimal, so
- * refusal 10 is 000A and 13 is 000D. A line is refused by 13, then 10, then as a frame, then by 9 where words are left over behind
- * its frame. So a bad line is no refusal of this call. first: the bytes of the text. Refusal 7, of table 4, where `text` is too
- * short for them. SLOEFERTAND_PLAN_BYTES are always enough. */
+ * plan word; or, at the first line that is refused, only FFFF, that line's number, the refusal's and the offset of the word at fault,
+ * counted from that line's own first word: one past its last where a word is missing, the first left over where words are, 0 for
+ * refusals 13 and 10. All four are hexadecimal, so refusal 10 is 000A and 13 is 000D. A line is refused by 13, then 10, then as a
+ * frame, then by 9 where words are left over behind its frame. So a bad line is no refusal of this call. first: the bytes of the
+ * text. Refusal 7, of table 4, where `text` is too short for them. SLOEFERTAND_PLAN_BYTES are always enough. */
 sloefertand_answer sloefertand_print(const uint8_t *lines, size_t lines_bytes, uint8_t *text, size_t text_bytes);
 
 /* PATTERNS AS TEXT, in the abbreviated form of XPath 1.0: / and a first step, then steps after / (child) or // (descendant). A

@@ -1,6 +1,6 @@
-/* What a program in C does with the library: it plans a batch, reads a line, asks for verdicts, writes a witness as XML, reads a
- * document, reads and writes patterns as text and meets refusals. examples/run builds and runs it. Names a to e are the labels 1 to 5; the patterns as text have
- * names of their own. */
+/* What a program in C does with the library: it plans a batch, finds the word at fault in another, reads a line, asks for verdicts,
+ * writes a witness as XML, reads a document, reads and writes patterns as text and meets refusals. examples/run builds and runs it.
+ * Names a to e are the labels 1 to 5; the patterns as text have names of their own. */
 #include <stdint.h>
 #include <stdio.h>
 #include <string.h>
@@ -42,6 +42,21 @@ static void show_plan(const uint16_t *batch, size_t words) {
         printf("%s of %zu steps and %zu nodes: %u\n", kinds[frame.first], frame.third, frame.fourth, (unsigned)plan[number]);
         at = frame.second;
     }
+}
+
+/* Where a batch is refused: the place is the offset of the word at fault, which stands in brackets; a missing word is one past the
+ * last. */
+static void show_fault(const uint16_t *batch, size_t words) {
+    uint16_t plan[SLOEFERTAND_FRAMES];
+    sloefertand_answer planned = sloefertand_plan(batch, words, plan, COUNT(plan));
+    if (!refused(planned)) {
+        return;
+    }
+    printf("words:");
+    for (size_t i = 0; i < words; i++) {
+        printf(i == planned.place ? " [%u]" : " %u", (unsigned)batch[i]);
+    }
+    printf(planned.place == words ? " []\n" : "\n");
 }
 
 /* The words of a line of digits. */
@@ -200,6 +215,14 @@ int main(void) {
     };
     printf("the plan of a batch\n");
     show_plan(batch, COUNT(batch));
+
+    static const uint16_t bad[] = {
+        1, 1, 0, 1,       /* read a */
+        3, 2, 0, 1, 3, 2, /* delete a and, by an axis that there is not, b */
+    };
+    printf("\na batch with a wrong axis, and one that ends too early\n");
+    show_fault(bad, COUNT(bad));
+    show_fault(bad, COUNT(bad) - 2);
 
     printf("\nthe line of delete a/b\n");
     show_line("000300020000000100010002");

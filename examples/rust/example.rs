@@ -1,6 +1,6 @@
-//! What a program in Rust does with the library: it plans a batch, reads a line, asks for verdicts, writes a witness as XML, reads a
-//! document, reads and writes patterns as text and meets refusals. `examples/run` builds and runs it. Names a to e are the labels 1 to 5;
-//! the patterns as text have names of their own.
+//! What a program in Rust does with the library: it plans a batch, finds the word at fault in another, reads a line, asks for verdicts,
+//! writes a witness as XML, reads a document, reads and writes patterns as text and meets refusals. `examples/run` builds and runs it.
+//! Names a to e are the labels 1 to 5; the patterns as text have names of their own.
 
 /// The library behind safe functions over slices: `include/sloefertand.h` says what each promises and refuses.
 mod sloefertand {
@@ -342,6 +342,27 @@ fn show_plan(batch: &[u16]) -> Result<(), Refusal> {
     Ok(())
 }
 
+/// Where a batch is refused: the place is the offset of the word at fault, which stands in brackets; a missing word is one past the
+/// last.
+fn show_fault(batch: &[u16]) {
+    let mut plan = [0; sloefertand::FRAMES];
+    let Err(refusal) = sloefertand::plan(batch, &mut plan) else {
+        return;
+    };
+    let place = refusal.place;
+    show_refusal(refusal);
+    print!("words:");
+    for (i, word) in batch.iter().enumerate() {
+        if i == place {
+            print!(" [{word}]");
+        } else {
+            print!(" {word}");
+        }
+    }
+    let missing = if place == batch.len() { " []" } else { "" };
+    println!("{missing}");
+}
+
 /// The words of a line of digits.
 fn show_line(line: &[u8]) -> Result<(), Refusal> {
     let mut words = [0; sloefertand::LINE_WORDS];
@@ -479,6 +500,14 @@ fn show_all() -> Result<(), Refusal> {
     ];
     println!("the plan of a batch");
     show_plan(&batch)?;
+
+    let bad = [
+        1, 1, 0, 1, // read a
+        3, 2, 0, 1, 3, 2, // delete a and, by an axis that there is not, b
+    ];
+    println!("\na batch with a wrong axis, and one that ends too early");
+    show_fault(&bad);
+    show_fault(&bad[..bad.len() - 2]);
 
     println!("\nthe line of delete a/b");
     show_line(b"000300020000000100010002")?;

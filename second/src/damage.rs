@@ -4,26 +4,27 @@ use crate::batch::frames;
 use crate::counts::{Count, Counts};
 use crate::refusal::Refusal;
 use crate::two_damages;
+use crate::word_damages::{harmed, Damage};
 use std::io::{self, Write};
 
-/// The batches that are damaged; the first is document 01's listing.
-const BATCHES: [&[u16]; 4] = [
+/// The batches that are damaged, frame by frame; the first is document 01's listing.
+pub const BATCHES: [&[&[u16]]; 4] = [
     &[
-        3, 2, 0, 1, 1, 2, //
-        2, 2, 0, 1, 1, 2, 1, 0, 3, //
-        1, 2, 0, 1, 2, 4, //
-        1, 2, 0, 1, 2, 3, //
-        1, 1, 0, 1,
+        &[3, 2, 0, 1, 1, 2],
+        &[2, 2, 0, 1, 1, 2, 1, 0, 3],
+        &[1, 2, 0, 1, 2, 4],
+        &[1, 2, 0, 1, 2, 3],
+        &[1, 1, 0, 1],
     ],
     &[
-        2, 1, 0, 0, 3, 0, 1, 0, 2, 1, 3, //
-        1, 3, 0, 1, 1, 0, 2, 2,
+        &[2, 1, 0, 0, 3, 0, 1, 0, 2, 1, 3],
+        &[1, 3, 0, 1, 1, 0, 2, 2],
     ],
-    &[1, 1, 0, 1],
+    &[&[1, 1, 0, 1]],
     &[
-        3, 3, 0, 0, 2, 1, 1, 0, //
-        3, 2, 0, 2, 2, 0, //
-        1, 2, 0, 2, 1, 1,
+        &[3, 3, 0, 0, 2, 1, 1, 0],
+        &[3, 2, 0, 2, 2, 0],
+        &[1, 2, 0, 2, 1, 1],
     ],
 ];
 
@@ -34,14 +35,15 @@ type Answer = Result<usize, Refusal>;
 /// doubling, then every two words.
 pub fn write(out: &mut dyn Write) -> io::Result<Counts> {
     let (mut damaged, mut doubly) = (0, 0);
-    for (batch, words) in (1..).zip(BATCHES) {
+    for (batch, frames) in (1..).zip(BATCHES) {
+        let words = frames.concat();
         for word in 0..words.len() {
             let at = format!("{batch} {word}");
-            damaged += write_values(out, &at, words, word)?;
-            damaged += write_one(out, &at, "lost", &lost(words, word))?;
-            damaged += write_one(out, &at, "twice", &twice(words, word))?;
+            damaged += write_values(out, &at, &words, word)?;
+            damaged += write_one(out, &at, "lost", &harmed(&words, (word, Damage::Lost)))?;
+            damaged += write_one(out, &at, "twice", &harmed(&words, (word, Damage::Twice)))?;
         }
-        doubly += two_damages::write(out, batch, words)?;
+        doubly += two_damages::write(out, batch, &words)?;
     }
     Ok(vec![
         Count::new("damaged-batches", damaged),
@@ -85,16 +87,6 @@ fn write_one(out: &mut dyn Write, at: &str, name: &str, batch: &[u16]) -> io::Re
     Ok(1)
 }
 
-/// The words without one of them.
-fn lost(words: &[u16], word: usize) -> Vec<u16> {
-    [&words[..word], &words[word + 1..]].concat()
-}
-
-/// The words with one of them standing twice.
-fn twice(words: &[u16], word: usize) -> Vec<u16> {
-    [&words[..=word], &words[word..]].concat()
-}
-
 /// An answer as the table shows it.
 fn text(answer: Answer) -> String {
     match answer {
@@ -109,30 +101,45 @@ mod tests {
 
     #[test]
     fn the_undamaged_batches_are_accepted() {
-        let found: Vec<Answer> = BATCHES.iter().map(|words| frames(words)).collect();
+        let found: Vec<Answer> = BATCHES
+            .iter()
+            .map(|batch| frames(&batch.concat()))
+            .collect();
         assert_eq!(found, [Ok(5), Ok(2), Ok(1), Ok(3)]);
     }
 
-    #[test]
-    fn words_are_lost_and_doubled_in_place() {
-        assert_eq!(lost(&[4, 5, 6], 1), [4, 6]);
-        assert_eq!(twice(&[4, 5, 6], 1), [4, 5, 5, 6]);
+    /// The lines of every value of a word of a batch.
+    fn runs(batch: usize, word: usize) -> Vec<String> {
+        let mut out = Vec::new();
+        let tried = write_values(&mut out, "", &BATCHES[batch - 1].concat(), word).unwrap();
+        assert_eq!(tried, 65_536);
+        let text = String::from_utf8(out).unwrap();
+        text.lines().map(|line| line.trim().to_string()).collect()
     }
 
     #[test]
     fn runs_cover_every_value() {
-        let mut out = Vec::new();
-        let tried = write_values(&mut out, "3 0", BATCHES[2], 0).unwrap();
-        assert_eq!(tried, 65_536);
-        let text = String::from_utf8(out).unwrap();
-        let lines: Vec<&str> = text.lines().collect();
-        let expected = [
-            "3 0 0 0 8 6 0",
-            "3 0 1 1 ok 1",
-            "3 0 2 2 9 6 0",
-            "3 0 3 3 6 6 0",
-            "3 0 4 65535 8 6 0",
+        let kinds = [
+            "0 0 8 6 0",
+            "1 1 ok 1",
+            "2 2 9 6 4",
+            "3 3 6 6 1",
+            "4 65535 8 6 0",
         ];
-        assert_eq!(lines, expected);
+        assert_eq!(runs(3, 0), kinds);
+    }
+
+    #[test]
+    fn places_are_offsets_in_the_whole_batch() {
+        let steps = [
+            "0 0 1 6 22",
+            "1 1 9 6 31",
+            "2 2 ok 5",
+            "3 3 8 6 29",
+            "4 4 3 6 29",
+            "5 64 9 6 31",
+            "65 65535 2 6 22",
+        ];
+        assert_eq!(runs(1, 22), steps);
     }
 }

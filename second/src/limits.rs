@@ -17,3 +17,6 @@ pub const BATCH_WORDS: usize = 16_384;
 
 /// A document has at most this many used nodes.
 pub const DOCUMENT_NODES: usize = 4_096;
+
+/// A line has at most this many digits.
+pub const LINE_DIGITS: usize = 2_572;

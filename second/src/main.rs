@@ -1,4 +1,4 @@
-//! Sloefertand's second program: eight tables, found by trying all small trees, making all
+//! Sloefertand's second program: nine tables, found by trying all small trees, making all
 //! small texts, and drawing some long patterns and some large trees.
 
 mod batch;
@@ -16,6 +16,7 @@ mod either_order;
 mod examples;
 mod letters;
 mod limits;
+mod lines;
 mod long_reads;
 mod node_set;
 mod numbering;
@@ -24,6 +25,7 @@ mod pattern;
 mod pattern_texts;
 mod placing;
 mod plans;
+mod printer;
 mod refusal;
 mod right_lists;
 mod right_texts;
@@ -39,6 +41,7 @@ mod two_damages;
 mod updates;
 #[cfg(test)]
 mod verdict;
+mod word_damages;
 
 use numbering::Numbering;
 use pairs::Pairs;
@@ -48,7 +51,7 @@ use std::io::{self, BufWriter, Write};
 use std::process::ExitCode;
 
 const USAGE: &str =
-    "usage: second [pairs | documents | damage | plans | texts | deletes | reads | tags | counts]";
+    "usage: second [pairs | documents | damage | plans | texts | deletes | reads | tags | lines | counts]";
 
 /// What is asked for.
 #[derive(Clone, Copy, PartialEq, Eq)]
@@ -62,6 +65,7 @@ enum Wanted {
     Deletes,
     Reads,
     Tags,
+    Lines,
     Counts,
 }
 
@@ -78,6 +82,7 @@ fn wanted(arguments: &[OsString]) -> Option<Wanted> {
             "deletes" => Some(Wanted::Deletes),
             "reads" => Some(Wanted::Reads),
             "tags" => Some(Wanted::Tags),
+            "lines" => Some(Wanted::Lines),
             "counts" => Some(Wanted::Counts),
             _ => None,
         },
@@ -85,7 +90,7 @@ fn wanted(arguments: &[OsString]) -> Option<Wanted> {
     }
 }
 
-/// Writes the eight tables in order and gives all their counts.
+/// Writes the nine tables in order and gives all their counts.
 fn write_all(numbering: &Numbering, out: &mut dyn Write) -> io::Result<counts::Counts> {
     let pairs = Pairs::tried(numbering);
     let mut counts = pairs.write(out)?;
@@ -96,6 +101,7 @@ fn write_all(numbering: &Numbering, out: &mut dyn Write) -> io::Result<counts::C
     counts.extend(either_order::write(numbering, out)?);
     counts.extend(long_reads::write(out)?);
     counts.extend(tree_tags::write(out)?);
+    counts.extend(lines::write(out)?);
     Ok(counts)
 }
 
@@ -129,6 +135,9 @@ fn run(wanted: Wanted, out: &mut dyn Write) -> io::Result<()> {
         }
         Wanted::Tags => {
             tree_tags::write(out)?;
+        }
+        Wanted::Lines => {
+            lines::write(out)?;
         }
         Wanted::Counts => counts::write(&write_all(&numbering, &mut io::sink())?, out)?,
     }

@@ -2,22 +2,8 @@
 
 use crate::batch::frames;
 use crate::digest::Digest;
+use crate::word_damages::{damages, harmed, Damage};
 use std::io::{self, Write};
-
-/// What a word is replaced by: every count that a damaged batch has room for,
-/// the limits of steps and nodes and one more than each, the greatest word.
-const VALUES: [u16; 21] = [
-    0, 1, 2, 3, 4, 5, 6, 7, 8, 9, 10, 11, 12, 13, 14, 15, //
-    64, 65, 256, 257, 65_535,
-];
-
-/// What happens to a word.
-#[derive(Clone, Copy)]
-enum Damage {
-    Replaced(u16),
-    Lost,
-    Twice,
-}
 
 /// Writes a line for every two words of a batch; gives the number of batches tried.
 pub fn write(out: &mut dyn Write, batch: usize, words: &[u16]) -> io::Result<usize> {
@@ -40,29 +26,9 @@ fn pairs() -> impl Iterator<Item = (Damage, Damage)> {
     damages().flat_map(|one| damages().map(move |other| (one, other)))
 }
 
-/// The damages of a word: its values, its loss, its doubling.
-fn damages() -> impl Iterator<Item = Damage> {
-    let values = VALUES.into_iter().map(Damage::Replaced);
-    values.chain([Damage::Lost, Damage::Twice])
-}
-
 /// The words with two of them damaged.
 fn damaged(words: &[u16], first: (usize, Damage), second: (usize, Damage)) -> Vec<u16> {
-    let mut batch = words.to_vec();
-    harm(&mut batch, second);
-    harm(&mut batch, first);
-    batch
-}
-
-/// Damages one word; only it and those behind it move.
-fn harm(batch: &mut Vec<u16>, (word, damage): (usize, Damage)) {
-    match damage {
-        Damage::Replaced(value) => batch[word] = value,
-        Damage::Lost => {
-            batch.remove(word);
-        }
-        Damage::Twice => batch.insert(word, batch[word]),
-    }
+    harmed(&harmed(words, second), first)
 }
 
 /// Takes the number of frames, or the refusal.
@@ -107,12 +73,12 @@ mod tests {
 
     #[test]
     fn faults_at_two_nodes_go_node_by_node() {
-        let number = |first, second| {
+        let refused = |first, second| {
             let batch = damaged(&WORDS, first, second);
-            frames(&batch).map_err(|refusal| refusal.number)
+            frames(&batch).map_err(|refusal| (refusal.number, refusal.place))
         };
-        assert_eq!(number((8, Replaced(0)), (9, Replaced(2))), Err(5));
-        assert_eq!(number((7, Replaced(1)), (10, Replaced(0))), Err(4));
-        assert_eq!(number((7, Replaced(1)), (8, Replaced(0))), Err(4));
+        assert_eq!(refused((8, Replaced(0)), (9, Replaced(2))), Err((5, 8)));
+        assert_eq!(refused((7, Replaced(1)), (10, Replaced(0))), Err((4, 7)));
+        assert_eq!(refused((7, Replaced(1)), (8, Replaced(0))), Err((4, 7)));
     }
 }

@@ -14,18 +14,22 @@ use Rattle.tables.specs.Words.{steps, Bits16}
 use Rattle.tables.specs.Checks.{patternCheck, treeCheck}
 use Rattle.tables.specs.declared.refusal.Checked.{Checked}
 use Rattle.tables.specs.declared.refusal.Checked.the-variants.{Fine, Refused}
-use Rattle.tables.proofs.Accepted.{held, then-first, then-second}
+use Rattle.tables.proofs.Accepted.{never, held, then-first, then-second}
 use Rattle.tables.proofs.Soundness.{accepted-pattern, accepted-tree}
 use Rattle.order.specs.Fitting.{Fit, FitFrame}
-use Rattle.batch_parts.specs.Parts.{part, count, placed, countCheck, stepsCheck, nodesCheck}
+use Rattle.batch_parts.specs.Parts.{part, count, inSteps, inNodes, countCheck, stepsCheck, nodesCheck}
 use Rattle.batch_frame.specs.Frames.{kind, treeAt, restCheck, frameCheck}
 use Rattle.batch_frame.proofs.Accepted.{frame-kind, frame-steps, frame-behind, steps-room, insert-nodes}
 use Rattle.batch_check.specs.Batches.{patternOf, treeOf, updateOf, meaning}
 
--- a part that is refused nowhere in its frame is fine
-placed-fine : (n : ℕ) (c : Checked) → placed n c ≡ Fine → c ≡ Fine
-placed-fine n Fine e = refl
-placed-fine n (Refused r) e = let z : _≡_ {A = ℕ} 0 1 = cc in absurd (omega arith)
+-- steps and nodes that are refused nowhere in the batch are fine
+steps-are : (from : ℕ) (c : Checked) → inSteps from c ≡ Fine → c ≡ Fine
+steps-are from Fine e = refl
+steps-are from (Refused r) e = never refl e
+
+nodes-are : (from : ℕ) (c : Checked) → inNodes from c ≡ Fine → c ≡ Fine
+nodes-are from Fine e = refl
+nodes-are from (Refused r) e = never refl e
 
 -- the words of a part are words of the batch, or 0
 pub part-words : (b : List ℕ) (from n : ℕ) → Bits16 b → Bits16 (part b from n)
@@ -47,7 +51,7 @@ module _ (b : List ℕ) (n at : ℕ) (e : frameCheck b n at ≡ Fine) where
   steps-fine =
       let from : at + 1 + 1 ≡ at + 2 = omega arith in
       let fine : patternCheck (part b (at + 1 + 1) (2 * count b (at + 1))) stepLimit 6 ≡ Fine =
-      placed-fine n _ (then-second (countCheck b n (at + 1) stepLimit) _ (frame-steps b n at e)) in
+      steps-are (at + 1 + 1) _ (then-second (countCheck b (at + 1) stepLimit) _ (frame-steps b n at e)) in
       rw from at fine
 
   pub steps-count : steps (patternOf b at) ≡ count b (at + 1)
@@ -64,7 +68,7 @@ module _ (b : List ℕ) (n at : ℕ) (e : frameCheck b n at ≡ Fine) where
   module _ (is : kind b at ≡ 2) where
     pub tree-fine : treeCheck (treeOf b at) treeLimit 6 ≡ Fine
     unfolding nodesCheck
-    tree-fine = placed-fine n _ (then-second (countCheck b n (treeAt at (count b (at + 1))) treeLimit) _ (insert-nodes b n at e is))
+    tree-fine = nodes-are (treeAt at (count b (at + 1)) + 1) _ (then-second (countCheck b (treeAt at (count b (at + 1))) treeLimit) _ (insert-nodes b n at e is))
 
   module _ (words : Bits16 b) where
     fit-pattern : Fit (patternOf b at)

@@ -96,7 +96,7 @@ module _ {Fit : Frame (List ℕ) Update → Type 0} where
 
 pub accepted-frames : (b : List ℕ) → batchCheck b ≡ Fine → checkFrom b 0 0 (length b) ≡ Fine
 unfolding batchCheck
-accepted-frames b e = then-second (test (leb (length b) batchLimit) (refuse 10 6 0)) _ e
+accepted-frames b e = then-second (test (leb (length b) batchLimit) (refuse 10 6 batchLimit)) _ e
 
 pub accepted-each : {Fit : Frame (List ℕ) Update → Type 0} (b : List ℕ) → ((n at : ℕ) → frameCheck b n at ≡ Fine → Fit (meaning b at)) → batchCheck b ≡ Fine → Fits Fit (batchOf b)
 unfolding batchOf

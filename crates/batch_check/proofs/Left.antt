@@ -68,7 +68,7 @@ module _ (b : List ℕ) where
     unfolding countedFrom
     count-end h = rw (frames-off b at h, check-off b at h n, add-zero)
 
-  pub words-over : batchLimit < length b → Refused (record { number = 10; table = 6; place = 0 }) ≡ countedOf (batchCheck b) (length (batchOf b))
+  pub words-over : batchLimit < length b → Refused (record { number = 10; table = 6; place = batchLimit }) ≡ countedOf (batchCheck b) (length (batchOf b))
   unfolding batchCheck
   words-over h = rw (lt-leb (length b) batchLimit h)
 

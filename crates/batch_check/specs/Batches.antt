@@ -43,9 +43,9 @@ unfoldable pub checkFrom : List ℕ → ℕ → ℕ → ℕ → Checked
 checkFrom b n at zero = checked.Fine
 checkFrom b n at (suc most) = cond (ltb at (length b)) (frameCheck b n at then checkFrom b (suc n) (endOf b at) most) checked.Fine
 
--- 10 for words; then each frame from the front
+-- 10 for words, whose place is the first too many; then each frame from the front
 unfoldable pub batchCheck : List ℕ → Checked
-batchCheck b = test (leb (length b) batchLimit) (refuse 10 6 0) then checkFrom b 0 0 (length b)
+batchCheck b = test (leb (length b) batchLimit) (refuse 10 6 batchLimit) then checkFrom b 0 0 (length b)
 
 -- then 7 when the plan has fewer words than frames
 unfoldable pub planCheck : List ℕ → ℕ → Checked

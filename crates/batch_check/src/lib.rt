@@ -41,7 +41,7 @@ fn limited(b: &[u16]) -> Counted
         return Counted::Refused(Refusal {
             number: 10,
             table: 6,
-            place: 0,
+            place: BATCH_LIMIT,
         });
     }
     walked(b)

@@ -33,25 +33,25 @@ pub kind-three : (k : ℕ) → (k ≡ 1 → ⊥) → (k ≡ 2 → ⊥) → eqb k
 unfolding kindRight
 kind-three k n m = rw (ne-eqb k 1 n, ne-eqb k 2 m)
 
-module _ (b : List ℕ) (n k at : ℕ) {s : ℕ} (is : s ≡ count b (at + 1)) where
-  pub rest-insert : {answer : Checked} → k ≡ 2 → answer ≡ nodesCheck b n (at + 2 + 2 * s) → answer ≡ restCheck b n k at
+module _ (b : List ℕ) (k at : ℕ) {s : ℕ} (is : s ≡ count b (at + 1)) where
+  pub rest-insert : {answer : Checked} → k ≡ 2 → answer ≡ nodesCheck b (at + 2 + 2 * s) → answer ≡ restCheck b k at
   unfolding restCheck
   rest-insert e a = rw (e, ← is) a
 
-  pub rest-read : (k ≡ 2 → ⊥) → (k ≡ 3 → ⊥) → Fine ≡ restCheck b n k at
+  pub rest-read : (k ≡ 2 → ⊥) → (k ≡ 3 → ⊥) → Fine ≡ restCheck b k at
   unfolding restCheck
   rest-read no-insert no-delete = rw (ne-eqb k 2 no-insert, ne-eqb k 3 no-delete)
 
-  pub rest-one : {answer : Checked} → answer ≡ refuse 6 6 n → k ≡ 3 → s ≤ 1 → answer ≡ restCheck b n k at
+  pub rest-one : {answer : Checked} → answer ≡ refuse 6 6 (at + 1) → k ≡ 3 → s ≤ 1 → answer ≡ restCheck b k at
   unfolding restCheck
   rest-one a e h = rw (e, ← is, le-ltb 1 s h) a
 
-  pub rest-delete : k ≡ 3 → 1 < s → Fine ≡ restCheck b n k at
+  pub rest-delete : k ≡ 3 → 1 < s → Fine ≡ restCheck b k at
   unfolding restCheck
   rest-delete e h = rw (e, ← is, lt-ltb 1 s h)
 
 module _ (b : List ℕ) (n at : ℕ) where
-  pub frame-over : {answer : Checked} → answer ≡ refuse 10 6 n → frameLimit ≤ n → answer ≡ frameCheck b n at
+  pub frame-over : {answer : Checked} → answer ≡ refuse 10 6 at → frameLimit ≤ n → answer ≡ frameCheck b n at
   unfolding frameCheck
   frame-over a h = rw (le-ltb n frameLimit h) a
 
@@ -67,22 +67,22 @@ module _ (b : List ℕ) (n at : ℕ) where
             absurd (false≢true (sym h ∙ rw (right, zero)))
 
     module _ (within : n < frameLimit) {answer : Checked} where
-      pub frame-kind : answer ≡ refuse 8 6 n → not flag ≡ true → answer ≡ frameCheck b n at
+      pub frame-kind : answer ≡ refuse 8 6 at → not flag ≡ true → answer ≡ frameCheck b n at
       unfolding frameCheck
       frame-kind a h = rw (lt-ltb n frameLimit within) (a ∙ sym (first-failed _ (right ∙ ap kindRight is) _ _ _ h))
 
-      pub frame-body : answer ≡ (stepsCheck b n (at + 1) then restCheck b n k at) → not flag ≡ false → answer ≡ frameCheck b n at
+      pub frame-body : answer ≡ (stepsCheck b (at + 1) then restCheck b k at) → not flag ≡ false → answer ≡ frameCheck b n at
       unfolding frameCheck
       frame-body a h =
           rw (lt-ltb n frameLimit within)
-          (a ∙ ap (λ (x : ℕ). stepsCheck b n (at + 1) then restCheck b n x at) is ∙ sym (first-passed _ (right ∙ ap kindRight is) _ h))
+          (a ∙ ap (λ (x : ℕ). stepsCheck b (at + 1) then restCheck b x at) is ∙ sym (first-passed _ (right ∙ ap kindRight is) _ h))
 
 -- a frame that meets no refusal stands in the batch
 pub frame-here : (b : List ℕ) (n at : ℕ) → frameCheck b n at ≡ Fine → at < length b
 unfolding frameCheck
 frame-here b n at e =
-    let rest = then-second (test (ltb n frameLimit) (refuse 10 6 n)) _ e in
-    let right : kindRight (kind b at) ≡ true = held (kindRight (kind b at)) _ (then-first (test (kindRight (kind b at)) (refuse 8 6 n)) _ rest) in
+    let rest = then-second (test (ltb n frameLimit) (refuse 10 6 at)) _ e in
+    let right : kindRight (kind b at) ≡ true = held (kindRight (kind b at)) _ (then-first (test (kindRight (kind b at)) (refuse 8 6 at)) _ rest) in
     kind-here b n at refl refl (rw right)
 
 module _ (b : List ℕ) (at : ℕ) {k s : ℕ} (is : k ≡ kind b at) (steps : s ≡ count b (at + 1)) where

@@ -2,3 +2,4 @@
 pub mod Branches
 pub mod Ending
 pub mod Accepted
+pub mod Faulty

@@ -25,19 +25,20 @@ treeAt at n = at + 2 + 2 * n
 unfoldable pub kindRight : ℕ → Bool
 kindRight k = eqb k 1 || (eqb k 2 || eqb k 3)
 
--- what stands behind the steps: a delete has more than one step, an insert has its nodes
-unfoldable pub restCheck : List ℕ → ℕ → ℕ → ℕ → Checked
-restCheck b n k at =
-    test (not (eqb k 3) || ltb 1 (count b (at + 1))) (refuse 6 6 n)
-    then cond (eqb k 2) (nodesCheck b n (treeAt at (count b (at + 1)))) Fine
+-- what stands behind the steps: a delete has more than one step, an insert has its nodes. The place of 6 is the step count
+unfoldable pub restCheck : List ℕ → ℕ → ℕ → Checked
+restCheck b k at =
+    test (not (eqb k 3) || ltb 1 (count b (at + 1))) (refuse 6 6 (at + 1))
+    then cond (eqb k 2) (nodesCheck b (treeAt at (count b (at + 1)))) Fine
 
--- frame n at a place of the batch: 10, 8, step count absent 9, 1, 2, steps absent 9, 3, 6, and for an insert 9, 1, 2, 9, 4, 5
+-- frame n at a place of the batch: 10, 8, step count absent 9, 1, 2, steps absent 9, 3, 6, and for an insert 9, 1, 2, 9, 4, 5.
+-- The place of 10 is the start of the frame, that of 8 its kind, which is the same word
 unfoldable pub frameCheck : List ℕ → ℕ → ℕ → Checked
 frameCheck b n at =
-    test (ltb n frameLimit) (refuse 10 6 n)
-    then test (kindRight (kind b at)) (refuse 8 6 n)
-    then stepsCheck b n (at + 1)
-    then restCheck b n (kind b at) at
+    test (ltb n frameLimit) (refuse 10 6 at)
+    then test (kindRight (kind b at)) (refuse 8 6 at)
+    then stepsCheck b (at + 1)
+    then restCheck b (kind b at) at
 
 -- how many nodes the frame has, and where it ends
 unfoldable pub nodesOf : List ℕ → ℕ → ℕ

@@ -15,19 +15,19 @@ ghost use Rattle.batch_parts.specs.Parts.{stepsCheck};
 ghost use Rattle.batch_frame.specs.Frames.{kindRight, restCheck, frameCheck, frameOf, frameAt};
 
 // What stands behind the steps of a frame of kind k.
-fn rest_checked(b: &[u16], n: usize, k: usize, at: usize) -> Checked
+fn rest_checked(b: &[u16], k: usize, at: usize) -> Checked
     requires { ⌜ at < length (now b) ⌝ }
-    ensures { λ r. ⌜ r ≡ restCheck (now (b .entry)) n k at ⌝ }
+    ensures { λ r. ⌜ r ≡ restCheck (now (b .entry)) k at ⌝ }
 {
     let steps = word(b, at + 1);
     if k == 2 {
-        return nodes_checked(b, n, at + 2 + 2 * steps);
+        return nodes_checked(b, at + 2 + 2 * steps);
     }
     if k != 3 {
         return Checked::Fine;
     }
     if steps <= 1 {
-        return refused(6, 6, n);
+        return refused(6, 6, at + 1);
     }
     Checked::Fine
 }
@@ -45,12 +45,12 @@ fn kind_right(k: usize) -> bool
 }
 
 // The steps of a frame, and what stands behind them.
-fn body_checked(b: &[u16], n: usize, k: usize, at: usize) -> Checked
+fn body_checked(b: &[u16], k: usize, at: usize) -> Checked
     requires { ⌜ at < length (now b) ⌝ }
-    ensures { λ r. ⌜ r ≡ (stepsCheck (now (b .entry)) n (at + 1) then restCheck (now (b .entry)) n k at) ⌝ }
+    ensures { λ r. ⌜ r ≡ (stepsCheck (now (b .entry)) (at + 1) then restCheck (now (b .entry)) k at) ⌝ }
 {
-    match steps_checked(b, n, at + 1) {
-        Checked::Fine => rest_checked(b, n, k, at),
+    match steps_checked(b, at + 1) {
+        Checked::Fine => rest_checked(b, k, at),
         Checked::Refused(r) => Checked::Refused(r),
     }
 }
@@ -60,13 +60,13 @@ fn frame_checked(b: &[u16], n: usize, at: usize) -> Checked
     ensures { λ r. ⌜ r ≡ frameCheck (now (b .entry)) n at ⌝ }
 {
     if FRAME_LIMIT <= n {
-        return refused(10, 6, n);
+        return refused(10, 6, at);
     }
     let k = word(b, at);
     if !kind_right(k) {
-        return refused(8, 6, n);
+        return refused(8, 6, at);
     }
-    body_checked(b, n, k, at)
+    body_checked(b, k, at)
 }
 
 // The frame at a place where one stands.

@@ -1,2 +1,4 @@
 -- Laws of the counted parts of a frame.
 pub mod Branches
+pub mod Places
+pub mod Wrong

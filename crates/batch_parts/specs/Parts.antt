@@ -1,7 +1,8 @@
 -- The counted parts of a frame: a count, and behind it two words for each step or node.
 use Prim.Native.Nat.{ℕ, _+_, _*_}
 use mathlib.Core.List.{List}
-use lib.Dec.{ltb, leb}
+use mathlib.Core.Bool.{cond}
+use lib.Dec.{eqb, ltb, leb}
 use lib.ListN.{length, getD, take, drop}
 use Rattle.tables.specs.Limits.{stepLimit, treeLimit}
 use Rattle.tables.specs.Checks.{_then_, test, refuse, patternCheck, treeCheck}
@@ -16,23 +17,28 @@ part b from words = take words (drop from b)
 abbrev pub count : List ℕ → ℕ → ℕ
 count b at = getD b at 0
 
--- in a batch the table is 6 and the place is the frame
-abbrev pub placed : ℕ → Checked → Checked
-placed n Fine = Fine
-placed n (Refused r) = refuse (r .number) 6 n
+-- In a batch the table is 6, and the place is the offset of a word from the start of the batch. Of steps, the first at an offset: the axis of the step
+abbrev pub inSteps : ℕ → Checked → Checked
+inSteps from Fine = Fine
+inSteps from (Refused r) = refuse (r .number) 6 (from + 2 * r .place)
 
--- a count, and behind it two words each: absent 9, 1, 2, the rest absent 9
-unfoldable pub countCheck : List ℕ → ℕ → ℕ → ℕ → Checked
-countCheck b n at limit =
-    test (ltb at (length b)) (refuse 9 6 n)
-    then test (ltb 0 (count b at)) (refuse 1 6 n)
-    then test (leb (count b at) limit) (refuse 2 6 n)
-    then test (leb (at + 1 + 2 * count b at) (length b)) (refuse 9 6 n)
+-- of nodes, the first at an offset: the parent of the node, for 5 its label
+abbrev pub inNodes : ℕ → Checked → Checked
+inNodes from Fine = Fine
+inNodes from (Refused r) = refuse (r .number) 6 (from + 2 * r .place + cond (eqb (r .number) 5) 1 0)
+
+-- a count, and behind it two words each: absent 9, 1, 2, the rest absent 9. The place is the count; for 9 the first word that is missing
+unfoldable pub countCheck : List ℕ → ℕ → ℕ → Checked
+countCheck b at limit =
+    test (ltb at (length b)) (refuse 9 6 (length b))
+    then test (ltb 0 (count b at)) (refuse 1 6 at)
+    then test (leb (count b at) limit) (refuse 2 6 at)
+    then test (leb (at + 1 + 2 * count b at) (length b)) (refuse 9 6 (length b))
 
 -- the steps: their count, then 3
-unfoldable pub stepsCheck : List ℕ → ℕ → ℕ → Checked
-stepsCheck b n at = countCheck b n at stepLimit then placed n (patternCheck (part b (at + 1) (2 * count b at)) stepLimit 6)
+unfoldable pub stepsCheck : List ℕ → ℕ → Checked
+stepsCheck b at = countCheck b at stepLimit then inSteps (at + 1) (patternCheck (part b (at + 1) (2 * count b at)) stepLimit 6)
 
 -- the nodes of an insert: their count, then 4, 5
-unfoldable pub nodesCheck : List ℕ → ℕ → ℕ → Checked
-nodesCheck b n at = countCheck b n at treeLimit then placed n (treeCheck (part b (at + 1) (2 * count b at)) treeLimit 6)
+unfoldable pub nodesCheck : List ℕ → ℕ → Checked
+nodesCheck b at = countCheck b at treeLimit then inNodes (at + 1) (treeCheck (part b (at + 1) (2 * count b at)) treeLimit 6)

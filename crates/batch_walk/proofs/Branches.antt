@@ -24,7 +24,7 @@ module _ (b : List ℕ) (n at : ℕ) {got : Framed} (is : got ≡ frameAt b n at
   framed-found e = rw (← is, e)
 
 module _ (b : List ℕ) (n at : ℕ) where
-  pub step-long : batchLimit < length b → answer.Refused (record { number = 10; table = 6; place = 0 }) ≡ stepAt b n at
+  pub step-long : batchLimit < length b → answer.Refused (record { number = 10; table = 6; place = batchLimit }) ≡ stepAt b n at
   unfolding stepAt
   step-long h = rw (lt-leb (length b) batchLimit h)
 

@@ -29,7 +29,7 @@ unfolding stepAt frameAt
 given b n at {f} e = go (leb (length b) batchLimit) refl (ltb at (length b)) (frameCheck b n at) refl e
   where
     go : (s : Bool) → leb (length b) batchLimit ≡ s → (t : Bool) (c : Checked) → frameCheck b n at ≡ c
-        → cond s (cond t (answerOf (answered c (frameOf b at))) answer.Over) (answer.Refused (record { number = 10; table = 6; place = 0 })) ≡ answer.Frame f
+        → cond s (cond t (answerOf (answered c (frameOf b at))) answer.Over) (answer.Refused (record { number = 10; table = 6; place = batchLimit })) ≡ answer.Frame f
         → Given b n at f
     go true h true Fine fine e = record { words = leb-true (length b) batchLimit h; fine = fine; found = cc }
     go true h true (Refused r) fine e = let z : _≡_ {A = ℕ} 0 1 = cc in absurd (omega arith)

@@ -16,7 +16,7 @@ use Rattle.batch_walk.proofs.Branches.{place-refused, place-frame, plac
 
 module _ (b : List ℕ) (n at : ℕ) where
   -- over 16,384 words 10 at every call
-  pub long-always : batchLimit < length b → stepAt b n at ≡ answer.Refused (record { number = 10; table = 6; place = 0 })
+  pub long-always : batchLimit < length b → stepAt b n at ≡ answer.Refused (record { number = 10; table = 6; place = batchLimit })
   unfolding stepAt
   long-always h = rw (lt-leb (length b) batchLimit h)
 

@@ -2,6 +2,5 @@
 pub mod Given
 pub mod Branches
 pub mod Laws
-pub mod Bad
 pub mod Alone
 pub mod Walk

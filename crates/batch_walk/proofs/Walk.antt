@@ -9,24 +9,26 @@ use native.Mathlib.Omega.{arith}
 use lib.Dec.{ltb, leb}
 use lib.ListN.{length, take, drop, length-drop}
 use lib.Seq.{take-add, take-all}
-use borrow.Author.Tests.{lt-ltb, le-leb, lt-leb}
+use borrow.Author.Tests.{lt-ltb, le-ltb, le-leb, lt-leb}
 use Rattle.tables.specs.Limits.{batchLimit}
 use Rattle.tables.specs.Checks.{refuse}
 use Rattle.tables.specs.declared.refusal.Refusal.{Refusal}
 use Rattle.tables.specs.declared.refusal.Checked.{Checked}
 use Rattle.tables.specs.declared.refusal.Checked.the-variants.{Fine, Refused}
+use Rattle.tables.proofs.Accepted.{never, then-first}
 use Rattle.order.specs.Frames.{At, here, there}
 use Rattle.batch_frame.specs.Frames.{frameCheck, endOf, frameOf, answered, frameAt}
+use Rattle.batch_frame.specs.Faults.{named}
+use Rattle.batch_frame.proofs.Faulty.{frame-fault}
 use Rattle.batch_check.specs.Batches.{meaning, framesFrom, batchOf, checkFrom, batchCheck}
-use Rattle.batch_check.proofs.Frames.{frames-on, frames-off, check-on, check-off}
+use Rattle.batch_check.proofs.Frames.{frames-on, frames-off, check-on}
 use Rattle.outcomes.specs.declared.frames.Stepped.{Stepped}
 use Rattle.outcomes.specs.declared.frames.Stepped.the-variants as answer
 use Rattle.batch_walk.specs.Walking.{answerOf, stepAt, placeAfter, partAt}
-use Rattle.batch_walk.specs.Walk.{callPlace, callNumber, callGives, firstParts, GivesFrame}
+use Rattle.batch_walk.specs.Walk.{callPlace, callNumber, callGives, firstParts, GivesFrame, StopsAt}
 use Rattle.batch_walk.proofs.Given.{frame-from}
 use Rattle.batch_walk.proofs.Branches.{place-refused, place-frame, place-over, step-over, step-frame}
 use Rattle.batch_walk.proofs.Laws.{long-always, refused-stays, over-stays, frame-place, frame-next, frame-part}
-use Rattle.batch_walk.proofs.Bad.{frame-named, from-named}
 use Rattle.batch_walk.proofs.Alone.{frame-alone}
 
 -- what is left of a list, from its element k on
@@ -43,21 +45,10 @@ module _ {A : Type 0} where
   left-next (c ∷ l) zero e = cc
   left-next (c ∷ l) (suc k) e = left-next l k e
 
--- how many frames a walk gives, by the batch's check: all, or those before the bad one
-abbrev framesGiven : Checked → ℕ → ℕ
-framesGiven Fine n = n
-framesGiven (Refused r) n = r .place
-
--- and what every later call gives
+-- what every call behind the last frame that is given gives, by the batch's check
 abbrev ending : Checked → Stepped
 ending Fine = answer.Over
 ending (Refused r) = answer.Refused r
-
--- what stands at a place: a frame, a bad one, or none
-data Here (b : List ℕ) (k at : ℕ) : Type 0 where
-  good : at < length b → frameCheck b k at ≡ Fine → Here b k at
-  bad : (r : Refusal) → at < length b → frameCheck b k at ≡ Refused r → Here b k at
-  none : length b ≤ at → Here b k at
 
 -- call k is made at this place, with number k: the checks and the frames from there on are what is left of those of the batch
 record MadeAt (b : List ℕ) (k at : ℕ) : Type 0 where
@@ -67,14 +58,6 @@ record MadeAt (b : List ℕ) (k at : ℕ) : Type 0 where
   frames : drop k (batchOf b) ≡ framesFrom b at (length b)
 
 module _ (b : List ℕ) where
-  here-is : (k at : ℕ) → Here b k at
-  here-is k at = go (decLt at (length b)) (frameCheck b k at) refl
-    where
-      go : Dec (at < length b) → (c : Checked) → frameCheck b k at ≡ c → Here b k at
-      go (yes h) Fine e = good h e
-      go (yes h) (Refused r) e = bad r h e
-      go (no h) c e = none (omega arith)
-
   front : MadeAt b 0 0
   unfolding callPlace callNumber batchOf
   front = record { place = refl; number = refl; check = refl; frames = refl }
@@ -105,7 +88,7 @@ module _ (b : List ℕ) where
     where
       go : (s : Bool) → Dec (at < length b) → (c : Checked)
           → cond s (cond (ltb at (length b)) (answerOf (answered c (frameOf b at))) answer.Over)
-          (answer.Refused (record { number = 10; table = 6; place = 0 }))
+          (answer.Refused (record { number = 10; table = 6; place = batchLimit }))
           ≡ answer.Over
           → length b ≤ at
       go s (no h) c e = omega arith
@@ -139,60 +122,62 @@ module _ (b : List ℕ) where
             frames = left-next (batchOf b) k (left h);
           }
 
-      module _ (c : Checked) (is : checkFrom b 0 0 (length b) ≡ c) where
-        refused : {w : Refusal} → at < length b → frameCheck b k at ≡ Refused w → c ≡ Refused w
-        refused h why = sym is ∙ r .check ∙ check-on b at h k ∙ rw why
+      gone : length b ≤ at → length (batchOf b) ≤ k
+      gone h =
+          let nothing : length (batchOf b) - k ≡ 0 = rw (← length-drop, r .frames, frames-off b at h) in
+          omega arith
 
-        fine : length b ≤ at → c ≡ Fine
-        fine h = sym is ∙ r .check ∙ check-off b at h k
+      more : at < length b → k < length (batchOf b)
+      more h =
+          let some : length (batchOf b) - k ≡ suc (length (framesFrom b (endOf b at) (length b))) = rw (← length-drop, left h) in
+          omega arith
 
-        gone : length b ≤ at → length (batchOf b) ≤ k
-        gone h =
-            let nothing : length (batchOf b) - k ≡ 0 = rw (← length-drop, r .frames, frames-off b at h) in
-            omega arith
-
-        -- a call below their number stands at a frame
-        on : k < framesGiven c (length (batchOf b)) → Here b k at → (at < length b) × (frameCheck b k at ≡ Fine)
-        on below (good h found) = (h, found)
-        on below (bad w h why) = absurd (omega (arith, rw (refused h why) at below, frame-named k b at .place why))
-        on below (none h) = absurd (omega (arith, rw (fine h) at below, gone h))
-
-      -- and the one behind them at none, or at the bad one
-      off : (c : Checked) → checkFrom b 0 0 (length b) ≡ c → k ≡ framesGiven c (length (batchOf b)) → Here b k at → stepAt b k at ≡ ending c
-      off Fine is last (good h fine) =
-          let more : length (batchOf b) - k ≡ suc (length (framesFrom b (endOf b at) (length b))) = rw (← length-drop, left h) in
-          absurd (omega arith)
-      off (Refused w) is last (good h fine) =
-          let later : checkFrom b (suc k) (endOf b at) (length b) ≡ Refused w = rw fine at (sym (check-on b at h k) ∙ sym (r .check) ∙ is) in
-          absurd (omega (arith, from-named b (suc k) (endOf b at) (length b) later))
-      off c is last (bad w h why) = rw (refused c is h why) (step-bad k at h why)
-      off c is last (none h) = rw (fine c is h) (sym (step-over b k at words h))
-
-    module _ (c : Checked) (is : checkFrom b 0 0 (length b) ≡ c) where
-      reach : (k : ℕ) → k ≤ framesGiven c (length (batchOf b)) → (at : ℕ) × MadeAt b k at
-      reach zero h = (0, front)
-      reach (suc k) h =
-          let (at, r) = reach k (omega arith) in
-          let found = on r c is (omega arith) (here-is k at) in
-          (endOf b at, next r (found .0) (found .1))
-
-      gives : (k : ℕ) → k < framesGiven c (length (batchOf b)) → GivesFrame b k
-      gives k h =
-          let (at, r) = reach k (omega arith) in
-          let found = on r c is h (here-is k at) in
-          let e = step-good k at (found .0) (found .1) in
+      gives-here : at < length b → frameCheck b k at ≡ Fine → GivesFrame b k
+      gives-here h fine =
+          let e = step-good k at h fine in
           record {
             frame = meaning b at;
-            is = at-left (batchOf b) k (left r (found .0));
+            is = at-left (batchOf b) k (left h);
             stands = rw (r .place);
             given = rw (r .number, r .place) e;
-            alone = rw (r .number, r .place, frame-part b k at e) (frame-alone b k at (found .1));
+            alone = rw (r .number, r .place, frame-part b k at e) (frame-alone b k at fine);
           }
 
-      ends : callGives b (framesGiven c (length (batchOf b))) ≡ ending c
-      ends =
-          let (at, r) = reach (framesGiven c (length (batchOf b))) (omega arith) in
-          rw (r .number, r .place) (off r c is refl (here-is _ at))
+    -- of an accepted batch every frame is given
+    module _ (accepted : checkFrom b 0 0 (length b) ≡ Fine) where
+      fine-here : {k at : ℕ} → MadeAt b k at → at < length b → frameCheck b k at ≡ Fine
+      fine-here {k} {at} r h = then-first (frameCheck b k at) _ (sym (check-on b at h k) ∙ sym (r .check) ∙ accepted)
+
+      reach : (k : ℕ) → k ≤ length (batchOf b) → (at : ℕ) × MadeAt b k at
+      reach zero h = (0, front)
+      reach (suc k) h = go (reach k (omega arith))
+        where
+          go : (at : ℕ) × MadeAt b k at → (at : ℕ) × MadeAt b (suc k) at
+          go (at, r) = on (decLt at (length b))
+            where
+              on : Dec (at < length b) → (at : ℕ) × MadeAt b (suc k) at
+              on (yes l) = (endOf b at, next r l (fine-here r l))
+              on (no l) = absurd (omega (arith, gone r (omega arith)))
+
+      gives : (k : ℕ) → k < length (batchOf b) → GivesFrame b k
+      gives k h = go (reach k (omega arith))
+        where
+          go : (at : ℕ) × MadeAt b k at → GivesFrame b k
+          go (at, r) = on (decLt at (length b))
+            where
+              on : Dec (at < length b) → GivesFrame b k
+              on (yes l) = gives-here r l (fine-here r l)
+              on (no l) = absurd (omega (arith, gone r (omega arith)))
+
+      ends : callGives b (length (batchOf b)) ≡ answer.Over
+      ends = go (reach (length (batchOf b)) (omega arith))
+        where
+          go : (at : ℕ) × MadeAt b (length (batchOf b)) at → callGives b (length (batchOf b)) ≡ answer.Over
+          go (at, r) = on (decLt at (length b))
+            where
+              on : Dec (at < length b) → callGives b (length (batchOf b)) ≡ answer.Over
+              on (yes l) = absurd (omega (arith, more r l))
+              on (no l) = rw (r .number, r .place) (sym (step-over b (length (batchOf b)) at words (omega arith)))
 
   -- what a walk ends with, every later call gives again
   again : (c : Checked) (k : ℕ) → callGives b k ≡ ending c → callGives b (suc k) ≡ ending c
@@ -208,47 +193,71 @@ module _ (b : List ℕ) where
       go (yes l) before = again c k (before l)
       go (no l) before = let same : suc k ≡ last = omega arith in rw same e
 
-  -- by the check of the batch: over the limit no frame is given
-  module _ (c : Checked) (is : batchCheck b ≡ c) where
-    within : length b ≤ batchLimit → checkFrom b 0 0 (length b) ≡ c
-    unfolding batchCheck
-    within words = rw (le-leb (length b) batchLimit words) at is
+  -- of a refused one every frame before the bad one is given, and from there on its refusal
+  module _ (words : length b ≤ batchLimit) {why : Refusal} where
+    bad-here : {k at : ℕ} → MadeAt b k at → ((j : ℕ) → j < k → GivesFrame b j) → at < length b → frameCheck b k at ≡ Refused why → StopsAt b why
+    bad-here {k} {at} r earlier h refused = record {
+      frame = k;
+      before = earlier;
+      refused = stays (Refused why) k (rw (r .number, r .place) (step-bad words k at h refused));
+      fault = rw (r .place) (frame-fault b k at h refused);
+    }
 
-    over : batchLimit < length b → c ≡ refuse 10 6 0
-    unfolding batchCheck
-    over long = sym is ∙ rw (lt-leb (length b) batchLimit long)
-
-    walk-gives : (k : ℕ) → k < framesGiven c (length (batchOf b)) → GivesFrame b k
-    walk-gives k h = go (decLe (length b) batchLimit)
+    stop : {k at : ℕ} (most : ℕ) → MadeAt b k at → ((j : ℕ) → j < k → GivesFrame b j) → checkFrom b k at most ≡ Refused why → StopsAt b why
+    unfolding checkFrom
+    stop zero r earlier e = never e refl
+    stop {k} {at} (suc most) r earlier e = go (decLt at (length b)) (frameCheck b k at) refl (λ later given f. stop {k = suc k} {at = endOf b at} most later given f)
       where
-        go : Dec (length b ≤ batchLimit) → GivesFrame b k
-        go (yes words) = gives words c (within words) k h
-        go (no long) = absurd (omega (arith, rw (over (omega arith)) at h))
+        one-more : at < length b → frameCheck b k at ≡ Fine → (j : ℕ) → j < suc k → GivesFrame b j
+        one-more h fine j l = on (decLt j k)
+          where
+            on : Dec (j < k) → GivesFrame b j
+            on (yes below) = earlier j below
+            on (no above) = let same : j ≡ k = omega arith in rw same (gives-here words r h fine)
 
-    walk-ends : (k : ℕ) → framesGiven c (length (batchOf b)) ≤ k → callGives b k ≡ ending c
-    walk-ends k h = go (decLe (length b) batchLimit)
-      where
-        go : Dec (length b ≤ batchLimit) → callGives b k ≡ ending c
-        go (yes words) = stays c _ (ends words c (within words)) k h
-        go (no long) = rw (over (omega arith)) (long-always b (callNumber b k) (callPlace b k) (omega arith))
+        go : Dec (at < length b) → (c : Checked) → frameCheck b k at ≡ c
+            → (MadeAt b (suc k) (endOf b at) → ((j : ℕ) → j < suc k → GivesFrame b j) → checkFrom b (suc k) (endOf b at) most ≡ Refused why → StopsAt b why)
+            → StopsAt b why
+        go (yes h) Fine fine further = further (next words r h fine) (one-more h fine) (rw (lt-ltb at (length b) h, fine) at e)
+        go (yes h) (Refused w) is further =
+            let same : Refused w ≡ Refused why = rw (lt-ltb at (length b) h, is) at e in
+            bad-here r earlier h (is ∙ same)
+        go (no h) c is further =
+            let none : Fine ≡ Refused why = rw (le-ltb at (length b) (omega arith)) at e in
+            never none refl
+
+  -- within the limit the batch's check is that of its frames; over it no frame is given
+  within : (c : Checked) → batchCheck b ≡ c → length b ≤ batchLimit → checkFrom b 0 0 (length b) ≡ c
+  unfolding batchCheck
+  within c is words = rw (le-leb (length b) batchLimit words) at is
+
+  over : batchLimit < length b → batchCheck b ≡ refuse 10 6 batchLimit
+  unfolding batchCheck
+  over long = rw (lt-leb (length b) batchLimit long)
 
   -- of an accepted batch each frame, then none left
   module _ (fine : batchCheck b ≡ Fine) where
+    words-few : length b ≤ batchLimit
+    words-few = go (decLe (length b) batchLimit)
+      where
+        go : Dec (length b ≤ batchLimit) → length b ≤ batchLimit
+        go (yes h) = h
+        go (no h) = never (over (omega arith)) fine
+
     pub walk-frames : (k : ℕ) → k < length (batchOf b) → GivesFrame b k
-    walk-frames = walk-gives Fine fine
+    walk-frames = gives words-few (within Fine fine words-few)
 
     pub walk-over : (k : ℕ) → length (batchOf b) ≤ k → callGives b k ≡ answer.Over
-    walk-over = walk-ends Fine fine
+    walk-over = stays Fine (length (batchOf b)) (ends words-few (within Fine fine words-few))
 
     -- and then the parts are the whole batch
     pub walk-whole : (k : ℕ) → length (batchOf b) ≤ k → firstParts b k ≡ b
     walk-whole k h =
         rw (parts-join k) (take-all (callPlace b k) b (over-end (callNumber b k) (callPlace b k) (walk-over k h)))
 
-  -- of a refused one each frame before the bad one, then its refusal
-  module _ {why : Refusal} (refused : batchCheck b ≡ Refused why) where
-    pub walk-before : (k : ℕ) → k < why .place → GivesFrame b k
-    walk-before = walk-gives (Refused why) refused
+  -- a refused one within the limit stops the walk at one frame; over the limit every call is refused
+  pub walk-stops : {why : Refusal} → batchCheck b ≡ Refused why → length b ≤ batchLimit → StopsAt b why
+  walk-stops {why} refused words = stop words (length b) front (λ j h. absurd (omega arith)) (within (Refused why) refused words)
 
-    pub walk-refused : (k : ℕ) → why .place ≤ k → callGives b k ≡ answer.Refused why
-    walk-refused = walk-ends (Refused why) refused
+  pub walk-long : batchLimit < length b → (batchCheck b ≡ refuse 10 6 batchLimit) × ((k : ℕ) → callGives b k ≡ answer.Refused (named 10 batchLimit))
+  walk-long long = (over long, λ k. long-always b (callNumber b k) (callPlace b k) long)

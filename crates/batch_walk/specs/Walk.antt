@@ -1,10 +1,12 @@
 -- A whole walk over the frames of a batch. Its calls are counted from 0; between them it moves as the walker does.
-use Prim.Native.Nat.{ℕ, zero, suc}
+use Prim.Native.Nat.{ℕ, zero, suc, _<_, _≤_}
 use mathlib.Core.Path.{_≡_}
 use mathlib.Core.List.{List, [], _∷_, _++_}
 use Rattle.conflict.specs.Conflict.{Update}
 use Rattle.order.specs.Frames.{Frame, At}
+use Rattle.tables.specs.declared.refusal.Refusal.{Refusal}
 use Rattle.batch_frame.specs.Frames.{frameOf}
+use Rattle.batch_frame.specs.Faults.{FaultAt}
 use Rattle.batch_check.specs.Batches.{meaning, batchOf}
 use Rattle.outcomes.specs.declared.frames.Stepped.{Stepped}
 use Rattle.outcomes.specs.declared.frames.Stepped.the-variants as answer
@@ -39,3 +41,10 @@ pub record GivesFrame (b : List ℕ) (k : ℕ) : Type 0 where
   pub stands : meaning b (callPlace b k) ≡ frame
   pub given : callGives b k ≡ answer.Frame (frameOf b (callPlace b k))
   pub alone : batchOf (callPart b k) ≡ frame ∷ []
+
+-- a batch whose walk is refused at a frame: each call before it gives its frame, every call from there on the refusal, whose fault is that frame's
+pub record StopsAt (b : List ℕ) (why : Refusal) : Type 0 where
+  pub frame : ℕ
+  pub before : (k : ℕ) → k < frame → GivesFrame b k
+  pub refused : (k : ℕ) → frame ≤ k → callGives b k ≡ answer.Refused why
+  pub fault : FaultAt b frame (callPlace b frame) why

@@ -25,11 +25,11 @@ unfoldable pub stepAt : List ℕ → ℕ → ℕ → Stepped
 stepAt b n at =
     cond (leb (length b) batchLimit)
     (cond (ltb at (length b)) (answerOf (frameAt b n at)) answer.Over)
-    (answer.Refused (record { number = 10; table = 6; place = 0 }))
+    (answer.Refused (record { number = 10; table = 6; place = batchLimit }))
 
 -- the order of its checks: 10 for words, then the frame's own; none at the end
 unfoldable pub walkCheck : List ℕ → ℕ → ℕ → Checked
-walkCheck b n at = test (leb (length b) batchLimit) (refuse 10 6 0) then cond (ltb at (length b)) (frameCheck b n at) Fine
+walkCheck b n at = test (leb (length b) batchLimit) (refuse 10 6 batchLimit) then cond (ltb at (length b)) (frameCheck b n at) Fine
 
 -- behind a frame its end, else the same place
 abbrev pub placeOf : Stepped → ℕ → ℕ

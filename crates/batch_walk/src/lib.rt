@@ -26,7 +26,7 @@ pub fn step(b: &[u16], n: usize, at: usize) -> Stepped
         return Stepped::Refused(Refusal {
             number: 10,
             table: 6,
-            place: 0,
+            place: BATCH_LIMIT,
         });
     }
     if b.len() <= at {

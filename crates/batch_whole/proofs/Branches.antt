@@ -17,7 +17,7 @@ use Rattle.batch_whole.specs.Whole.{wholeCheck}
 use Rattle.batch_check.proofs.Left.{frame-fine, frame-next, frame-why}
 
 module _ (b : List ℕ) (n at : ℕ) where
-  pub behind-over : batchLimit < length b → {answer : Checked} → answer ≡ refuse 10 6 0 → answer ≡ wholeCheck b n at
+  pub behind-over : batchLimit < length b → {answer : Checked} → answer ≡ refuse 10 6 batchLimit → answer ≡ wholeCheck b n at
   behind-over h a = rw (lt-leb (length b) batchLimit h) a
 
   module _ (h : length b ≤ batchLimit) {got : Framed} (e : got ≡ frameAt b n at) where
@@ -29,6 +29,6 @@ module _ (b : List ℕ) (n at : ℕ) where
       behind-fine same =
           rw (le-leb (length b) batchLimit h, frame-fine b n at e told, eq-eqb (endOf b at) (length b) (sym (frame-next b n at e told) ∙ same))
 
-      pub behind-left : (f .next ≡ length b → ⊥) → {answer : Checked} → answer ≡ refuse 9 6 n → answer ≡ wholeCheck b n at
+      pub behind-left : (f .next ≡ length b → ⊥) → {answer : Checked} → answer ≡ refuse 9 6 (f .next) → answer ≡ wholeCheck b n at
       behind-left other a =
-          rw (le-leb (length b) batchLimit h, frame-fine b n at e told, ne-eqb (endOf b at) (length b) (λ same. other (frame-next b n at e told ∙ same))) a
+          rw (le-leb (length b) batchLimit h, frame-fine b n at e told, ne-eqb (endOf b at) (length b) (λ same. other (frame-next b n at e told ∙ same)), ← frame-next b n at e told) a

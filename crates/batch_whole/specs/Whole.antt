@@ -11,6 +11,6 @@ use Rattle.batch_frame.specs.Frames.{endOf, frameCheck}
 -- 10 for words, as a frame, words left over
 abbrev pub wholeCheck : List ℕ → ℕ → ℕ → Checked
 wholeCheck b n at =
-    test (leb (length b) batchLimit) (refuse 10 6 0)
+    test (leb (length b) batchLimit) (refuse 10 6 batchLimit)
     then frameCheck b n at
-    then test (eqb (endOf b at) (length b)) (refuse 9 6 n)
+    then test (eqb (endOf b at) (length b)) (refuse 9 6 (endOf b at))

@@ -12,7 +12,7 @@ pub fn frame_checked(b: &[u16], n: usize, at: usize) -> Checked
     ensures { λ r. ⌜ r ≡ wholeCheck (now (b .entry)) n at ⌝ }
 {
     if BATCH_LIMIT < b.len() {
-        return refused(10, 6, 0);
+        return refused(10, 6, BATCH_LIMIT);
     }
     match read_frame(b, n, at) {
         Framed::Refused(r) => Checked::Refused(r),
@@ -20,7 +20,7 @@ pub fn frame_checked(b: &[u16], n: usize, at: usize) -> Checked
             if f.next == b.len() {
                 return Checked::Fine;
             }
-            refused(9, 6, n)
+            refused(9, 6, f.next)
         }
     }
 }

@@ -48,7 +48,7 @@ use Rattle.order_deletes.proofs.Calls.{calls-marks, calls-count, calls-refusals
 use Rattle.order_deletes.proofs.Orders.{orders-marks, orders-total, either-marks, either-total, second-works, first-fine, made-before, again}
 use Rattle.order_deletes.proofs.Example.{above-first, below-first, not-each}
 use Rattle.batch_walk.proofs.Laws.{refused-stays, over-stays}
-use Rattle.batch_walk.proofs.Walk.{parts-join, walk-frames, walk-over, walk-whole, walk-before, walk-refused}
+use Rattle.batch_walk.proofs.Walk.{parts-join, walk-frames, walk-over, walk-whole, walk-stops, walk-long}
 use Rattle.text_digits.specs.Digits.{wordsOf, lineOf}
 use Rattle.text_digits.proofs.Returning.{length-wordsOf, length-lineOf}
 use Rattle.text_names.specs.Names.{lines}
@@ -62,6 +62,7 @@ use Rattle.text_xml.proofs.Bytes.{tree-bytes}
 use Rattle.text_printer.proofs.Settled.{printed-one}
 use Rattle.text_printer.proofs.Enough.{room-enough}
 use Rattle.text_printer.proofs.Behind.{prints-first}
+use Rattle.text_printer.proofs.Offsets.{offset-none, line-fault, stop-offset}
 use Rattle.demands.specs.Demands.{DemandOne, DemandTwo, Start, DemandThree, EitherOrder, Besides}
 use Rattle.demands.proofs.Numbering.{stops}
 use Rattle.demands.proofs.Orders as orders
@@ -97,7 +98,10 @@ demand-one =
       texts-place = texts-place;
       prints = orders.prints;
       prints-one = printed-one;
-      prints-refusal = λ s line why h. stops h;
+      prints-refusal = λ s line before why h. stops h;
+      prints-fault = λ l n b why e line ten. line-fault l n b why line ten e;
+      prints-offset = λ s line before why h not-line ten. stop-offset not-line ten h;
+      prints-none = offset-none;
     }
 
 -- where it is not refused, the verdict's count tells whether there is a conflict
@@ -215,8 +219,8 @@ besides =
       walker-over = λ b n at h. over-stays b n at h;
       walk-frames = walk-frames;
       walk-over = λ b fine k h. (walk-over b fine k h, walk-whole b fine k h);
-      walk-before = λ b why refused. walk-before b refused;
-      walk-refused = λ b why refused. walk-refused b refused;
+      walk-stops = λ b why refused. walk-stops b refused;
+      walk-long = walk-long;
       walk-parts = parts-join;
       list-names = list-lines;
       text-steps = text-steps;

@@ -6,13 +6,13 @@ use native.Mathlib.Omega.{arith}
 use mathlib.Core.Path.{_≡_, refl}
 use lib.Dec.{T, leb, ltb, lit≤}
 use lib.ListN.{length}
-use Rattle.tables.specs.Limits.{stepLimit, treeLimit}
+use Rattle.tables.specs.Limits.{stepLimit, treeLimit, batchLimit}
 use Rattle.tables.specs.Documents.{Doc}
 use Rattle.tables.specs.declared.refusal.Refusal.{Refusal}
 use Rattle.tables.specs.declared.refusal.Checked.{Checked}
 use Rattle.tables.specs.declared.refusal.Checked.the-variants.{Fine, Refused}
 use Rattle.tables.specs.Checks.{refuse, _then_, test, each, sizeCheck, axisCheck, patternCheck, nodeCheck, treeCheck, usedCheck, markCheck, documentCheck, outputCheck}
-use Rattle.batch_parts.specs.Parts.{placed, countCheck, stepsCheck, nodesCheck}
+use Rattle.batch_parts.specs.Parts.{inSteps, inNodes, countCheck, stepsCheck, nodesCheck}
 use Rattle.batch_frame.specs.Frames.{restCheck, frameCheck, endOf}
 use Rattle.check_plain.specs.Bare.{plainCheck}
 use Rattle.check_read.specs.Readable.{readCheck}
@@ -42,8 +42,8 @@ refusal : (n table place : ℕ) → T (leb 1 n) → T (leb n 15) → OnlyNumbere
 refusal n table place h k =
     record { numbered = λ r e. let q : n ≡ r .number = cc in record { least = rw (← q) (lit≤ h); most = rw (← q) (lit≤ k) } }
 
-pub ten : OnlyNumbered (refuse 10 6 0)
-ten = refusal 10 6 0 tt tt
+pub ten : OnlyNumbered (refuse 10 6 batchLimit)
+ten = refusal 10 6 batchLimit tt tt
 
 -- checks made of parts
 tested : (b : Bool) (n table place : ℕ) → T (leb 1 n) → T (leb n 15) → OnlyNumbered (test b (refuse n table place))
@@ -118,31 +118,36 @@ verdicts r (delete p) words = chained (deepDeleteCheck r p) (roomCheck r p words
 verdicts r (insert p x) words = chained (deepInsertCheck r p x) (roomCheck r p words) (deeps r (insert p x)) (rooms r p words)
 
 -- in a batch
-in-frame : (n : ℕ) (c : Checked) → OnlyNumbered c → OnlyNumbered (placed n c)
-in-frame n Fine h = fine
-in-frame n (Refused r) h =
-    let own = h .numbered r refl in
-    record { numbered = λ q e. let same : r .number ≡ q .number = cc in record { least = rw (← same) (own .least); most = rw (← same) (own .most) } }
+placed : {r q : Refusal} → r .number ≡ q .number → Numbered r → Numbered q
+placed same own = record { least = rw (← same) (own .least); most = rw (← same) (own .most) }
+
+in-steps : (from : ℕ) (c : Checked) → OnlyNumbered c → OnlyNumbered (inSteps from c)
+in-steps from Fine h = fine
+in-steps from (Refused r) h = record { numbered = λ q e. let same : r .number ≡ q .number = cc in placed same (h .numbered r refl) }
+
+in-nodes : (from : ℕ) (c : Checked) → OnlyNumbered c → OnlyNumbered (inNodes from c)
+in-nodes from Fine h = fine
+in-nodes from (Refused r) h = record { numbered = λ q e. let same : r .number ≡ q .number = cc in placed same (h .numbered r refl) }
 
 either-check : (b : Bool) (x y : Checked) → OnlyNumbered x → OnlyNumbered y → OnlyNumbered (cond b x y)
 either-check true x y h k = h
 either-check false x y h k = k
 
-counts : (b : List ℕ) (n at limit : ℕ) → OnlyNumbered (countCheck b n at limit)
+counts : (b : List ℕ) (at limit : ℕ) → OnlyNumbered (countCheck b at limit)
 unfolding countCheck
-counts b n at limit = search (chained, tested)
+counts b at limit = search (chained, tested)
 
-steps-of : (b : List ℕ) (n at : ℕ) → OnlyNumbered (stepsCheck b n at)
+steps-of : (b : List ℕ) (at : ℕ) → OnlyNumbered (stepsCheck b at)
 unfolding stepsCheck
-steps-of b n at = search (chained, counts, in-frame, patterns)
+steps-of b at = search (chained, counts, in-steps, patterns)
 
-trees-of : (b : List ℕ) (n at : ℕ) → OnlyNumbered (nodesCheck b n at)
+trees-of : (b : List ℕ) (at : ℕ) → OnlyNumbered (nodesCheck b at)
 unfolding nodesCheck
-trees-of b n at = search (chained, counts, in-frame, trees)
+trees-of b at = search (chained, counts, in-nodes, trees)
 
-rests : (b : List ℕ) (n k at : ℕ) → OnlyNumbered (restCheck b n k at)
+rests : (b : List ℕ) (k at : ℕ) → OnlyNumbered (restCheck b k at)
 unfolding restCheck
-rests b n k at = search (chained, tested, either-check, trees-of, fine)
+rests b k at = search (chained, tested, either-check, trees-of, fine)
 
 pub frames : (b : List ℕ) (n at : ℕ) → OnlyNumbered (frameCheck b n at)
 unfolding frameCheck
@@ -205,6 +210,6 @@ taken : (l : List ℕ) (n : ℕ) (b : List ℕ) → OnlyNumbered (takeCheck l n 
 unfolding takeCheck
 taken l n b = search (chained, tested, line-of, frames)
 
-pub stops : {s : List ℕ} {at n : ℕ} {b kinds : List ℕ} {line : ℕ} {why : Refusal} → Lines s at n b kinds (stopped line why) → Numbered why
+pub stops : {s : List ℕ} {at n : ℕ} {b kinds : List ℕ} {line before : ℕ} {why : Refusal} → Lines s at n b kinds (stopped line before why) → Numbered why
 stops (bad {at = at} {n = n} {b = b} {r = r} h e) = taken _ n b .numbered r e
 stops (good h e rest) = stops rest

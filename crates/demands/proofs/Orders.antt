@@ -137,8 +137,8 @@ unfolding walkCheck stepAt frameAt
 walks b n at = go (leb (length b) batchLimit) (ltb at (length b)) (frameCheck b n at) (numbering.frames b n at)
   where
     go : (s t : Bool) (c : Checked) → OnlyNumbered c
-        → ByOrder (test s (refuse 10 6 0) then cond t c Fine)
-        (ofStepped (cond s (cond t (answerOf (answered c (frameOf b at))) walker.Over) (walker.Refused (record { number = 10; table = 6; place = 0 }))))
+        → ByOrder (test s (refuse 10 6 batchLimit) then cond t c Fine)
+        (ofStepped (cond s (cond t (answerOf (answered c (frameOf b at))) walker.Over) (walker.Refused (record { number = 10; table = 6; place = batchLimit }))))
         Nothing
     go true true Fine all = was-fine refl refl
     go true true (Refused why) all = was-refused all refl tt

@@ -66,7 +66,13 @@ pub record DemandOne : Type 0 where
   pub prints : (s before after : List ℕ) (answer : Printed) (h : PrintedAs s before after answer) →
       ByOrder (outputCheck (length (h .text)) (length before)) (ofPrinted answer) (after ≡ before)
   pub prints-one : (s before one two : List ℕ) (x y : Printed) → PrintedAs s before one x → PrintedAs s before two y → (x ≡ y) × (one ≡ two)
-  pub prints-refusal : (s : List ℕ) (line : ℕ) (why : Refusal) → Lines s 0 0 [] [] (stopped line why) → Numbered why
+  pub prints-refusal : (s : List ℕ) (line before : ℕ) (why : Refusal) → Lines s 0 0 [] [] (stopped line before why) → Numbered why
+  -- a line that is refused as a frame, by neither 13 nor 10: what is wrong is wrong at the word that is named; the offset that is printed leads to it from the line's
+  -- own first word, and no digit of it is cut; for 13 and 10 it is 0
+  pub prints-fault : (l : List ℕ) (n : ℕ) (b : List ℕ) (why : Refusal) → takeCheck l n b ≡ Refused why → (why .number ≡ 13 → ⊥) → (why .number ≡ 10 → ⊥) → LineFault l n b why
+  pub prints-offset : (s : List ℕ) (line before : ℕ) (why : Refusal) → Lines s 0 0 [] [] (stopped line before why) → (why .number ≡ 13 → ⊥) → (why .number ≡ 10 → ⊥) →
+      (why .place ≡ before + offsetIn before why) × (offsetIn before why ≤ digitLimit / 4)
+  pub prints-none : (before : ℕ) (why : Refusal) → (why .number ≡ 13) ⊎ (why .number ≡ 10) → offsetIn before why ≡ 0
 
 -- Demand 2: a verdict that is not refused says yes exactly if some finite document shows a difference, and then writes such a document,
 -- of the fewest nodes possible and never more than the steps of both patterns together less one
@@ -191,9 +197,10 @@ pub record Besides : Type 0 where
   -- a walk from the front, its calls counted from 0: of an accepted batch call k gives frame k as its part of the batch; behind the last frame none is left, and the parts are the whole batch
   pub walk-frames : (b : List ℕ) → batchCheck b ≡ Fine → (k : ℕ) → k < length (batchOf b) → GivesFrame b k
   pub walk-over : (b : List ℕ) → batchCheck b ≡ Fine → (k : ℕ) → length (batchOf b) ≤ k → (callGives b k ≡ walker.Over) × (firstParts b k ≡ b)
-  -- of a refused one each frame before the bad one, and from there on its refusal at every call: the refusal's place is the bad frame, 0 for too many words
-  pub walk-before : (b : List ℕ) (why : Refusal) → batchCheck b ≡ Refused why → (k : ℕ) → k < why .place → GivesFrame b k
-  pub walk-refused : (b : List ℕ) (why : Refusal) → batchCheck b ≡ Refused why → (k : ℕ) → why .place ≤ k → callGives b k ≡ walker.Refused why
+  -- of a refused one each frame before the bad one, and from there on its refusal at every call: what is wrong is wrong in that frame, at the word that the refusal's
+  -- place names by its offset from the start of the batch; of too many words 10 at every call, at the first word too many
+  pub walk-stops : (b : List ℕ) (why : Refusal) → batchCheck b ≡ Refused why → length b ≤ batchLimit → StopsAt b why
+  pub walk-long : (b : List ℕ) → batchLimit < length b → (batchCheck b ≡ refuse 10 6 batchLimit) × ((k : ℕ) → callGives b k ≡ walker.Refused (named 10 batchLimit))
   -- before every call the parts so far are the batch up to its place
   pub walk-parts : (b : List ℕ) (k : ℕ) → firstParts b k ≡ take (callPlace b k) b
   -- patterns as text: a list has one list of names, and their numbers are their places in it; a right text has one list of steps, and means their pattern; what is written reads back as the same pattern, and what was read is

@@ -7,3 +7,4 @@ pub mod Accepted
 pub mod First
 pub mod Soundness
 pub mod Elsewhere
+pub mod Refused

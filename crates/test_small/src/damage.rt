@@ -7,15 +7,56 @@ use crate::two_damages;
 use c_answer::answer::Answer;
 use sloefertand::batches::sloefertand_plan;
 
+// The batches, of 5, 2, 1 and 3 frames; the first is the listing of document 01.
+pub(crate) const FIRST: [u16; 31] = [
+    3,
+    2,
+    0,
+    1,
+    1,
+    2,
+    2,
+    2,
+    0,
+    1,
+    1,
+    2,
+    1,
+    0,
+    3,
+    1,
+    2,
+    0,
+    1,
+    2,
+    4,
+    1,
+    2,
+    0,
+    1,
+    2,
+    3,
+    1,
+    1,
+    0,
+    1,
+];
+
+pub(crate) const SECOND: [u16; 19] = [2, 1, 0, 0, 3, 0, 1, 0, 2, 1, 3, 1, 3, 0, 1, 1, 0, 2, 2];
+
+pub(crate) const THIRD: [u16; 4] = [1, 1, 0, 1];
+
+pub(crate) const FOURTH: [u16; 20] = [3, 3, 0, 0, 2, 1, 1, 0, 3, 2, 0, 2, 2, 0, 1, 2, 0, 2, 1, 1];
+
 // Words of the longest batch, with one doubled.
 const ROOM: usize = 32;
 
-// An answer as one number: its first value, or from 10,000 on the refusal's number, table and place.
+// An answer as one number: its first value, or from 1,000,000 on the refusal's number, table and place, which is below 100,000 for any batch, tree or text here.
 pub(crate) fn code(a: Answer) -> usize {
     if a.refusal == 0 {
         return a.first;
     }
-    a.refusal % 100 * 10000 + a.table % 10 * 1000 + a.place % 1000
+    a.refusal % 100 * 1000000 + a.table % 10 * 100000 + a.place % 100000
 }
 
 // The answer for a batch, with an output of so many words.
@@ -28,15 +69,15 @@ fn answer(b: &[u16], frames: usize) -> usize {
 }
 
 pub(crate) fn show_answer(a: usize) {
-    if a < 10000 {
+    if a < 1000000 {
         text(b"ok ");
         number(a);
         text(b"\n");
         return;
     }
-    spaced(a / 10000);
-    spaced(a / 1000 % 10);
-    number(a % 1000);
+    spaced(a / 1000000);
+    spaced(a / 100000 % 10);
+    number(a % 100000);
     text(b"\n");
 }
 
@@ -169,52 +210,8 @@ fn both(name: usize, b: &[u16], frames: usize) {
 }
 
 pub(crate) fn table() {
-    both(
-        1,
-        &[
-            3,
-            2,
-            0,
-            1,
-            1,
-            2,
-            2,
-            2,
-            0,
-            1,
-            1,
-            2,
-            1,
-            0,
-            3,
-            1,
-            2,
-            0,
-            1,
-            2,
-            4,
-            1,
-            2,
-            0,
-            1,
-            2,
-            3,
-            1,
-            1,
-            0,
-            1,
-        ],
-        5,
-    );
-    both(
-        2,
-        &[2, 1, 0, 0, 3, 0, 1, 0, 2, 1, 3, 1, 3, 0, 1, 1, 0, 2, 2],
-        2,
-    );
-    both(3, &[1, 1, 0, 1], 1);
-    both(
-        4,
-        &[3, 3, 0, 0, 2, 1, 1, 0, 3, 2, 0, 2, 2, 0, 1, 2, 0, 2, 1, 1],
-        3,
-    );
+    both(1, &FIRST, 5);
+    both(2, &SECOND, 2);
+    both(3, &THIRD, 1);
+    both(4, &FOURTH, 3);
 }

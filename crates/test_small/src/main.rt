@@ -1,7 +1,8 @@
-// Everything small, and some long reads and large trees, over the proved library, by the functions that other languages link: the eight tables that the second program prints too. `stdout` holds what that program printed.
+// Everything small, and some long reads and large trees, over the proved library, by the functions that other languages link: the nine tables that the second program prints too. `stdout` holds what that program printed.
 mod damage;
 mod digest;
 mod either_order;
+mod line_damage;
 mod long_reads;
 mod numbering;
 mod paired;
@@ -28,4 +29,5 @@ fn main() {
     either_order::table();
     long_reads::table();
     tree_tags::table();
+    line_damage::table();
 }

@@ -14,17 +14,17 @@ const ROOM: usize = 33;
 // The most frames of such a batch: a frame has 4 words or more.
 const FRAMES: usize = 8;
 
-// The damages of a word: the values that replace it, then its loss, then its doubling.
+// The damages of a word: the values that replace it, then its loss, then its doubling. Any other number damages no word.
 const LOST: usize = 21;
 
 const TWICE: usize = 22;
 
-const DAMAGES: usize = 23;
+pub(crate) const DAMAGES: usize = 23;
 
 // A word and its damage.
-struct Damage {
-    word: usize,
-    kind: usize,
+pub(crate) struct Damage {
+    pub(crate) word: usize,
+    pub(crate) kind: usize,
 }
 
 // Value k: every count that a damaged batch has room for, the limits and one more than each, the greatest word.
@@ -71,7 +71,7 @@ fn harmed(out: &mut [u16], at: usize, word: u16, kind: usize) -> usize {
     behind
 }
 
-// The damage of word i, DAMAGES for none.
+// The damage of word i, DAMAGES for none; where both are of one word, the first.
 fn kind_at(i: usize, first: Damage, second: Damage) -> usize {
     if i == first.word {
         return first.kind;
@@ -82,8 +82,8 @@ fn kind_at(i: usize, first: Damage, second: Damage) -> usize {
     DAMAGES
 }
 
-// Writes a batch with two words damaged; its words.
-fn written(out: &mut [u16], b: &[u16], first: Damage, second: Damage) -> usize {
+// Writes a batch with two words damaged, or one where both damages are of one word; its words.
+pub(crate) fn written(out: &mut [u16], b: &[u16], first: Damage, second: Damage) -> usize {
     let mut at = 0;
     let mut i = 0;
     while i < b.len() {

@@ -1,12 +1,13 @@
 -- From what the checks and the loop give to the promise of reading a line; the promise fixes its answer and its buffer.
-use Prim.Native.Nat.{ℕ, _/_, _%_, _≤_}
+use Prim.Native.Nat.{ℕ, _/_, _%_, _<_, _≤_}
 use mathlib.Core.Path.{_≡_, refl, sym, _∙_, ap}
 use mathlib.Core.Bool.{_&&_}
 use mathlib.Core.List.{List, _++_}
 use native.Mathlib.Nat.{zero-add}
+use native.Mathlib.Omega.{arith}
 use lib.Dec.{eqb, ltb, leb}
 use lib.ListN.{length, getD, drop}
-use borrow.Author.Tests.{leb-true, eqb-true}
+use borrow.Author.Tests.{ltb-true, leb-true, eqb-true}
 use Rattle.tables.specs.Limits.{digitLimit}
 use Rattle.tables.specs.Checks.{_then_, test, refuse, outputCheck}
 use Rattle.tables.specs.declared.refusal.Refusal.{Refusal}
@@ -36,21 +37,26 @@ line-digits s line e =
           h)));
     }
 
--- and they are whole words, at most 2,572 digits
-line-sized : (s : List ℕ) (line : ℕ) → lineCheck s line ≡ Fine → (length s % 4 ≡ 0) × (length s ≤ digitLimit)
+-- and they are whole words, at least one, at most 2,572 digits
+line-sized : (s : List ℕ) (line : ℕ) → lineCheck s line ≡ Fine → (0 < length s) × (length s % 4 ≡ 0) × (length s ≤ digitLimit)
 unfolding lineCheck
 line-sized s line e =
     both (ltb 0 (length s)) (eqb (length s % 4) 0 && leb (length s) digitLimit)
     (held (ltb 0 (length s) && (eqb (length s % 4) 0 && leb (length s) digitLimit)) _
     (then-first (test (ltb 0 (length s) && (eqb (length s % 4) 0 && leb (length s) digitLimit)) (refuse 13 6 line)) _ e))
-    (λ some rest. both (eqb (length s % 4) 0) (leb (length s) digitLimit) rest (λ h k. (eqb-true (length s % 4) 0 h, leb-true (length s) digitLimit k)))
+    (λ some rest.
+    both (eqb (length s % 4) 0) (leb (length s) digitLimit) rest
+    (λ h k. (ltb-true 0 (length s) some, eqb-true (length s % 4) 0 h, leb-true (length s) digitLimit k)))
 
 pub line-short : (s : List ℕ) (line : ℕ) → lineCheck s line ≡ Fine → length s ≤ digitLimit
-line-short s line e = line-sized s line e .1
+line-short s line e = line-sized s line e .2
+
+pub line-some : (s : List ℕ) (line : ℕ) → lineCheck s line ≡ Fine → 4 ≤ length s
+line-some s line e = let sized = line-sized s line e in omega (arith, sized .0, sized .1)
 
 -- an accepted line is written back unchanged
 pub accepted-returns : (s : List ℕ) (line : ℕ) → lineCheck s line ≡ Fine → lineOf (wordsOf s) ≡ s
-accepted-returns s line e = line-returns s (line-digits s line e) (line-sized s line e .0)
+accepted-returns s line e = line-returns s (line-digits s line e) (line-sized s line e .1)
 
 module _ (s : List ℕ) (line : ℕ) (before : List ℕ) {got : Checked} (e : got ≡ (lineCheck s line then outputCheck (length s / 4) (length before))) where
   module _ (f : got ≡ Fine) where

@@ -1,72 +1,76 @@
--- The printed lines, thirteen bytes each, one behind the other.
-use Prim.Native.Nat.{ℕ, zero, suc, _+_, _-_, _*_, _/_, _%_, _≤_}
+-- The printed lines, four bytes a word and a line feed, one behind the other.
+use Prim.Native.Nat.{ℕ, zero, suc, _+_, _-_, _*_, _/_, _%_, _^_, _≤_}
 use mathlib.Core.Path.{_≡_, refl, sym, _∙_, ap}
-use mathlib.Core.List.{List, [], _∷_, _++_, append-assoc, append-nil}
+use mathlib.Core.List.{List, [], _∷_, _++_, map, append-assoc, append-nil}
 use native.Mathlib.Numerals.{add-one}
 use native.Mathlib.Omega.{arith}
-use lib.ListN.{length, getD, take, drop, set, length-append, length-drop, length-take}
+use lib.ListN.{length, getD, take, drop, set, length-append, length-map, length-drop, length-take}
 use lib.Seq.{drop-cons, set-at, drop-drop, append-snoc, take-at, drop-at}
 use Rattle.tables.specs.Limits.{wordLimit}
 use Rattle.check_size.proofs.Branches.{output-long}
-use Rattle.selection.specs.Lists.{tab}
-use Rattle.selection.proofs.Lists.{length-behind, rest-whole, rest-none}
+use Rattle.selection.proofs.Lists.{tab-ext, length-behind, rest-whole, rest-none}
 use Rattle.text_digits.specs.Digits.{byteAt, lineOf}
 use Rattle.text_digits.proofs.Returning.{length-lineOf}
 use Rattle.text_line_out.specs.Spelling.{WrittenAs}
 use Rattle.outcomes.specs.declared.texts.Spelled.{Spelled}
 use Rattle.outcomes.specs.declared.texts.Spelled.the-variants as spelled
-use Rattle.text_plan_lines.specs.Printing.{threeOf, planText}
+use Rattle.text_plan_lines.specs.Printing.{printedLine, planText}
 
-pub length-threeOf : (a b c : ℕ) → length (threeOf a b c) ≡ 13
-unfolding threeOf
-length-threeOf a b c = rw (length-append, length-lineOf)
+pub length-printedLine : (ws : List ℕ) → length (printedLine ws) ≡ 4 * length ws + 1
+unfolding printedLine
+length-printedLine ws = rw (length-append, length-lineOf)
 
--- the last four digits of a number are those of its word
-module _ (n : ℕ) where
-  low-first : n % wordLimit / 4096 % 16 ≡ n / 4096 % 16
-  low-first = omega arith
+-- the last four digits of a number are those of its word: digit i, the least significant first
+low-digit : (n i : ℕ) → i ≤ 3 → n % wordLimit / 16 ^ i % 16 ≡ n / 16 ^ i % 16
+low-digit n zero h = omega arith
+low-digit n (suc zero) h = omega arith
+low-digit n (suc (suc zero)) h = omega arith
+low-digit n (suc (suc (suc zero))) h = omega arith
+low-digit n (suc (suc (suc (suc i)))) h = absurd (omega arith)
 
-  low-second : n % wordLimit / 256 % 16 ≡ n / 256 % 16
-  low-second = omega arith
+-- numbers, each cut to its word
+abbrev pub lowWords : List ℕ → List ℕ
+lowWords = map (λ n. n % wordLimit)
 
-  low-third : n % wordLimit / 16 % 16 ≡ n / 16 % 16
-  low-third = omega arith
+getD-low : (ns : List ℕ) (k : ℕ) → getD (lowWords ns) k 0 ≡ getD ns k 0 % wordLimit
+getD-low [] k = refl
+getD-low (n ∷ ns) zero = refl
+getD-low (n ∷ ns) (suc k) = getD-low ns k
 
-  low-last : n % wordLimit / 1 % 16 ≡ n / 1 % 16
-  low-last = omega arith
+byte-low : (ns : List ℕ) (i : ℕ) → byteAt (lowWords ns) i ≡ byteAt ns i
+unfolding byteAt
+byte-low ns i = rw (getD-low ns (i / 4), low-digit (getD ns (i / 4) 0) (3 - i % 4) (omega arith))
 
-three-low : (a b c : ℕ) → threeOf (a % wordLimit) (b % wordLimit) (c % wordLimit) ≡ threeOf a b c
-unfolding threeOf lineOf tab byteAt
-three-low a b c =
-    rw (low-first a, low-second a, low-third a, low-last a, low-first b, low-second b, low-third b, low-last b, low-first c, low-second c, low-third c, low-last c)
+line-low : (ns : List ℕ) → printedLine (lowWords ns) ≡ printedLine ns
+unfolding printedLine lineOf
+line-low ns = rw (length-map, tab-ext (byteAt (lowWords ns)) (byteAt ns) (4 * length ns) (λ i h. byte-low ns i))
 
-pub three-printed : {x y z : ℕ} (a b c : ℕ) (rest : List ℕ) {out : List ℕ} → x ≡ a % wordLimit → y ≡ b % wordLimit → z ≡ c % wordLimit → out ≡ threeOf x y z ++ rest → out ≡ threeOf a b c ++ rest
-three-printed a b c rest p q r e = e ∙ rw (p, q, r, three-low a b c)
+-- so the line of the words is the line of the numbers
+pub words-printed : {ws : List ℕ} (ns rest : List ℕ) {out : List ℕ} → out ≡ printedLine ws ++ rest → ws ≡ lowWords ns → out ≡ printedLine ns ++ rest
+words-printed ns rest e low = e ∙ rw (low, line-low ns)
 
--- where there is room, three words are written
-module _ (a b c : ℕ) (before : List ℕ) (room : 13 ≤ length before) (after : List ℕ) where
-  three-digits : (r : Spelled) → WrittenAs (a ∷ b ∷ c ∷ []) before after r → after ≡ lineOf (a ∷ b ∷ c ∷ []) ++ drop 12 before
-  three-digits (spelled.Refused r) e =
-      let fine = output-long 12 (length before) (omega (arith, room)) in
+-- where there is room, words are written
+module _ (ws before : List ℕ) (room : 4 * length ws + 1 ≤ length before) (after : List ℕ) where
+  digits-written : (r : Spelled) → WrittenAs ws before after r → after ≡ lineOf ws ++ drop (4 * length ws) before
+  digits-written (spelled.Refused r) e =
+      let fine = output-long (4 * length ws) (length before) (omega (arith, room)) in
       let why = e .0 in
       let z : _≡_ {A = ℕ} 0 1 = cc in
       absurd (omega arith)
-  three-digits (spelled.Digits n) e =
-      let twelve : n ≡ 12 = e .1 in
-      e .2 ∙ rw twelve
+  digits-written (spelled.Digits n) e = e .2 ∙ rw (e .1)
 
-  pub three-written : (r : Spelled) → WrittenAs (a ∷ b ∷ c ∷ []) before after r → set after 12 10 ≡ threeOf a b c ++ drop 13 before
-  unfolding threeOf
-  three-written r e =
-      rw (three-digits r e, drop-cons before 12 0 (omega (arith, room)))
-      (set-at (lineOf (a ∷ b ∷ c ∷ [])) (getD before 12 0) (drop 13 before) 10 12 (length-lineOf (a ∷ b ∷ c ∷ []))
-      ∙ sym (append-snoc (lineOf (a ∷ b ∷ c ∷ [])) 10 (drop 13 before)))
+  pub line-written : (r : Spelled) → WrittenAs ws before after r → set after (4 * length ws) 10 ≡ printedLine ws ++ drop (4 * length ws + 1) before
+  unfolding printedLine
+  line-written r e =
+      rw (digits-written r e, drop-cons before (4 * length ws) 0 (omega (arith, room)), add-one (4 * length ws))
+      (set-at (lineOf ws) (getD before (4 * length ws) 0) (drop (suc (4 * length ws)) before) 10 (4 * length ws) (length-lineOf ws)
+      ∙ sym (append-snoc (lineOf ws) 10 (drop (suc (4 * length ws)) before)))
 
 module _ (kinds plan : List ℕ) where
   pub length-planText : (n : ℕ) → length (planText kinds plan n) ≡ 13 * n
   unfolding planText
   length-planText zero = refl
-  length-planText (suc n) = rw (length-append, length-planText n, length-threeOf) (omega arith)
+  length-planText (suc n) = rw (length-append, length-planText n, length-printedLine) (omega arith)
 
   module _ (old : List ℕ) where
     pub text-start : old ≡ planText kinds plan 0 ++ drop (13 * 0) old
@@ -79,11 +83,11 @@ module _ (kinds plan : List ℕ) where
 
       -- one line more, written into the rest
       pub text-more : 13 * (k + 1) ≤ length old → {a b : ℕ} → a ≡ getD kinds k 0 → b ≡ getD plan k 0 → {rest : List ℕ}
-          → rest ≡ threeOf a (k + 1) b ++ drop 13 (take (length out - 13 * k) (drop (13 * k) out))
+          → rest ≡ printedLine (a ∷ (k + 1) ∷ b ∷ []) ++ drop 13 (take (length out - 13 * k) (drop (13 * k) out))
           → take (13 * k) out ++ (rest ++ drop (length out - 13 * k) (drop (13 * k) out)) ≡ planText kinds plan (k + 1) ++ drop (13 * (k + 1)) old
       unfolding planText
       text-more h p q {rest} r =
-          let line = threeOf (getD kinds k 0) (k + 1) (getD plan k 0) in
+          let line = printedLine (getD kinds k 0 ∷ (k + 1) ∷ getD plan k 0 ∷ []) in
           let first = planText kinds plan k in
           let front : take (13 * k) out ≡ first = rw e (take-at first (drop (13 * k) old) (13 * k) (length-planText k)) in
           let behind : drop (13 * k) out ≡ drop (13 * k) old = rw e (drop-at first (drop (13 * k) old) (13 * k) (length-planText k)) in

@@ -1,16 +1,16 @@
-// Printed lines: three words and a line feed each. A refusal's line, or a line a frame.
+// Printed lines, words and a line feed each: a refusal's line of four words, or a line of three a frame.
 use check_size::output;
 use outcomes::texts::Printed;
 use tables::limits::WORD_LIMIT;
 use tables::refusal::Checked;
 use tables::words::word;
 use text_line_out::write_line;
-ghost use Prim.Native.Nat.{_*_, _%_, _≤_};
+ghost use Prim.Native.Nat.{_+_, _*_, _%_, _≤_};
 ghost use mathlib.Core.Path.{_≡_};
-ghost use mathlib.Core.List.{_++_};
+ghost use mathlib.Core.List.{[], _∷_, _++_};
 ghost use lib.ListN.{length, drop};
 ghost use Rattle.tables.specs.Limits.{wordLimit};
-ghost use Rattle.text_plan_lines.specs.Printing.{threeOf, planText, Answered};
+ghost use Rattle.text_plan_lines.specs.Printing.{printedLine, refusalText, planText, Answered};
 
 // The last four digits of a number, as a word.
 fn low(n: usize) -> u16
@@ -19,14 +19,32 @@ fn low(n: usize) -> u16
     (n % WORD_LIMIT) as u16
 }
 
-// Three numbers as a line, with its line feed, at the front.
+// Words as a line, with its line feed, at the front.
+fn write_words(words: &[u16], out: &mut [u8])
+    requires { ⌜ 4 * length (now words) + 1 ≤ length (now out) ⌝ }
+    ensures { λ _. ⌜ now (out .exit) ≡ printedLine (now (words .entry)) ++ drop (4 * length (now (words .entry)) + 1) (now (out .entry)) ⌝ }
+{
+    write_line(words, out);
+    let end = 4 * words.len();
+    out[end] = 10;
+}
+
+// Three numbers.
 fn write_three(a: usize, b: usize, c: usize, out: &mut [u8])
     requires { ⌜ 13 ≤ length (now out) ⌝ }
-    ensures { λ _. ⌜ now (out .exit) ≡ threeOf a b c ++ drop 13 (now (out .entry)) ⌝ }
+    ensures { λ _. ⌜ now (out .exit) ≡ printedLine (a ∷ b ∷ c ∷ []) ++ drop 13 (now (out .entry)) ⌝ }
 {
     let words = [low(a), low(b), low(c)];
-    write_line(&words, out);
-    out[12] = 10;
+    write_words(&words, out);
+}
+
+// Four numbers.
+fn write_four(a: usize, b: usize, c: usize, d: usize, out: &mut [u8])
+    requires { ⌜ 17 ≤ length (now out) ⌝ }
+    ensures { λ _. ⌜ now (out .exit) ≡ printedLine (a ∷ b ∷ c ∷ d ∷ []) ++ drop 17 (now (out .entry)) ⌝ }
+{
+    let words = [low(a), low(b), low(c), low(d)];
+    write_words(&words, out);
 }
 
 // A line a frame, at the front.
@@ -42,15 +60,15 @@ fn write_frames(kinds: &[u16], plan: &[u16], out: &mut [u8])
     }
 }
 
-// FFFF, the line number and the refusal number.
-pub fn print_refusal(line: usize, number: usize, out: &mut [u8]) -> Printed
-    ensures { λ r. ⌜ Answered (threeOf 65535 line number) (now (out .entry)) (now (out .exit)) r ⌝ }
+// FFFF, the line number, the refusal number and the offset in that line.
+pub fn print_refusal(line: usize, number: usize, offset: usize, out: &mut [u8]) -> Printed
+    ensures { λ r. ⌜ Answered (refusalText line number offset) (now (out .entry)) (now (out .exit)) r ⌝ }
 {
-    match output(13, out.len()) {
+    match output(17, out.len()) {
         Checked::Refused(r) => Printed::Refused(r),
         Checked::Fine => {
-            write_three(65535, line, number, out);
-            Printed::Bytes(13)
+            write_four(65535, line, number, offset, out);
+            Printed::Bytes(17)
         }
     }
 }

@@ -62,7 +62,7 @@ lines-taken (none h) t = rw (t .each) t
 lines-taken {s} {at} {n} {b} (good h e lines) t = lines-taken lines (sofar-more (lineAt s at) (kind (b ++ wordsOf (lineAt s at)) (length b)) e t)
 
 -- no line number is cut: a line that is refused is one of the first 129
-pub lines-stopped : {s : List ℕ} {at n : ℕ} {b kinds : List ℕ} {line : ℕ} {r : Refusal} → Lines s at n b kinds (stopped line r) → Sofar n b kinds → line ≤ frameLimit + 1
+pub lines-stopped : {s : List ℕ} {at n : ℕ} {b kinds : List ℕ} {line before : ℕ} {r : Refusal} → Lines s at n b kinds (stopped line before r) → Sofar n b kinds → line ≤ frameLimit + 1
 lines-stopped (bad h e) t = omega (arith, t .few)
 lines-stopped {s} {at} {n} {b} (good h e lines) t = lines-stopped lines (sofar-more (lineAt s at) (kind (b ++ wordsOf (lineAt s at)) (length b)) e t)
 

@@ -1,7 +1,7 @@
 -- The longest text that is printed is always enough room.
 use Prim.Native.Nat.{ℕ, _≤_}
 use mathlib.Core.Path.{_≡_, sym}
-use mathlib.Core.List.{List}
+use mathlib.Core.List.{List, [], _∷_}
 use native.Mathlib.Omega.{arith}
 use lib.ListN.{length, take, drop, length-append}
 use lib.Seq.{take-at}
@@ -10,15 +10,15 @@ use Rattle.tables.proofs.Accepted.{never}
 use Rattle.outcomes.specs.declared.texts.Printed.{Printed}
 use Rattle.outcomes.specs.declared.texts.Printed.the-variants as printed
 use Rattle.text_plan_lines.specs.Printing.{Answered}
-use Rattle.text_plan_lines.proofs.Texts.{length-threeOf, length-planText}
+use Rattle.text_plan_lines.proofs.Texts.{length-printedLine, length-planText}
 use Rattle.check_size.proofs.Branches.{output-long}
-use Rattle.text_printer.specs.Printer.{Prints, refusal, plan, PrintedAs}
+use Rattle.text_printer.specs.Printer.{offsetIn, Prints, refusal, plan, PrintedAs}
 use Rattle.text_printer.specs.Enough.{printedMost}
 use Rattle.text_printer.proofs.Accepting.{sofar-none, lines-taken}
 
 -- no text is longer
 pub text-most : {s text : List ℕ} → Prints s text → length text ≤ printedMost
-text-most (refusal {line = line} {r = r} lines) = omega (arith, length-threeOf 65535 line (r .number))
+text-most (refusal {line = line} {before = before} {r = r} lines) = omega (arith, length-printedLine (65535 ∷ line ∷ r .number ∷ offsetIn before r ∷ []))
 text-most (plan {kinds = kinds} {plan = words} lines p) = omega (arith, length-planText kinds words (length kinds), lines-taken lines sofar-none .few)
 
 module _ {s before after : List ℕ} {answer : Printed} (e : PrintedAs s before after answer) where

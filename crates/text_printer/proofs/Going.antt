@@ -38,10 +38,10 @@ module _ (l : List ℕ) (n : ℕ) (b : List ℕ) (e : takeCheck l n b ≡ Fine) 
   behind = then-second (lineCheck l (n + 1)) _ e
 
   pub taken-within : length (b ++ wordsOf l) ≤ batchLimit
-  taken-within = leb-true (length (b ++ wordsOf l)) batchLimit (held (leb (length (b ++ wordsOf l)) batchLimit) _ (then-first (test (leb (length (b ++ wordsOf l)) batchLimit) (refuse 10 6 0)) _ behind))
+  taken-within = leb-true (length (b ++ wordsOf l)) batchLimit (held (leb (length (b ++ wordsOf l)) batchLimit) _ (then-first (test (leb (length (b ++ wordsOf l)) batchLimit) (refuse 10 6 batchLimit)) _ behind))
 
-  as-frame : (frameCheck (b ++ wordsOf l) n (length b) then test (eqb (endOf (b ++ wordsOf l) (length b)) (length (b ++ wordsOf l))) (refuse 9 6 n)) ≡ Fine
-  as-frame = then-second (test (leb (length (b ++ wordsOf l)) batchLimit) (refuse 10 6 0)) _ behind
+  as-frame : (frameCheck (b ++ wordsOf l) n (length b) then test (eqb (endOf (b ++ wordsOf l) (length b)) (length (b ++ wordsOf l))) (refuse 9 6 (endOf (b ++ wordsOf l) (length b)))) ≡ Fine
+  as-frame = then-second (test (leb (length (b ++ wordsOf l)) batchLimit) (refuse 10 6 batchLimit)) _ behind
 
   pub taken-frame : frameCheck (b ++ wordsOf l) n (length b) ≡ Fine
   taken-frame = then-first (frameCheck (b ++ wordsOf l) n (length b)) _ as-frame
@@ -82,17 +82,17 @@ module _ {s batch₀ kinds₀ batch kinds : List ℕ} {at n used : ℕ} (going :
     go-most = rw is (next-most 10 s at (omega (arith, h)))
 
     module _ (after : List ℕ) (got : Taken) (e : TakenAs (part s at (end - at)) n used batch after got) where
-      pub go-stop : {r : Refusal} → got ≡ took.Refused r → RanAs s after kinds (ran.Stopped (n + 1) r)
+      front-long : length (take used batch) ≡ used
+      front-long = length-take-le used batch (omega (arith, going .within, going .words, room))
+
+      pub go-stop : {r : Refusal} → got ≡ took.Refused r → RanAs s after kinds (ran.Stopped (n + 1) used r)
       go-stop {r} told =
           let refused : takeCheck (part s at (end - at)) n (take used batch) ≡ Refused r = rw told at e in
-          going .back (bad h (rw line-is at refused))
+          rw front-long at (going .back (bad h (rw line-is at refused)))
 
       module _ {w : ℕ} (told : got ≡ took.Words w) where
         took-words : TakenAs (part s at (end - at)) n used batch after (took.Words w)
         took-words = rw told at e
-
-        front-long : length (take used batch) ≡ used
-        front-long = length-take-le used batch (omega (arith, going .within, going .words, room))
 
         fine : takeCheck (lineAt s at) n (take used batch) ≡ Fine
         fine = rw line-is at (took-words .0)

@@ -27,61 +27,61 @@ module _ (b more : List ℕ) where
       rw (drop-append-le from b more (omega arith))
       (take-append-le n (drop from b) more (rw length-drop (omega arith)))
 
-  count-longer : (n at limit : ℕ) → countCheck b n at limit ≡ Fine → countCheck (b ++ more) n at limit ≡ Fine
+  count-longer : (at limit : ℕ) → countCheck b at limit ≡ Fine → countCheck (b ++ more) at limit ≡ Fine
   unfolding countCheck
-  count-longer n at limit e =
-      let here = count-here b n at limit e in
-      let some = count-some b n at limit e in
-      let within = count-within b n at limit e in
-      let room = count-room b n at limit e in
+  count-longer at limit e =
+      let here = count-here b at limit e in
+      let some = count-some b at limit e in
+      let within = count-within b at limit e in
+      let room = count-room b at limit e in
       rw (same-word at here, length-append, lt-ltb at (length b + length more) (omega (arith, here)), lt-ltb 0 (count b at) some, le-leb (count b at) limit within, le-leb (at + 1 + 2 * count b at) (length b + length more) (omega (arith, room)))
 
-  steps-longer : (n at : ℕ) → stepsCheck b n at ≡ Fine → stepsCheck (b ++ more) n at ≡ Fine
+  steps-longer : (at : ℕ) → stepsCheck b at ≡ Fine → stepsCheck (b ++ more) at ≡ Fine
   unfolding stepsCheck
-  steps-longer n at e =
-      let counted = then-first (countCheck b n at stepLimit) _ e in
-      rw (count-longer n at stepLimit counted, same-word at (count-here b n at stepLimit counted), same-part (at + 1) (2 * count b at) (count-room b n at stepLimit counted))
-      (then-second (countCheck b n at stepLimit) _ e)
+  steps-longer at e =
+      let counted = then-first (countCheck b at stepLimit) _ e in
+      rw (count-longer at stepLimit counted, same-word at (count-here b at stepLimit counted), same-part (at + 1) (2 * count b at) (count-room b at stepLimit counted))
+      (then-second (countCheck b at stepLimit) _ e)
 
-  nodes-longer : (n at : ℕ) → nodesCheck b n at ≡ Fine → nodesCheck (b ++ more) n at ≡ Fine
+  nodes-longer : (at : ℕ) → nodesCheck b at ≡ Fine → nodesCheck (b ++ more) at ≡ Fine
   unfolding nodesCheck
-  nodes-longer n at e =
-      let counted = then-first (countCheck b n at treeLimit) _ e in
-      rw (count-longer n at treeLimit counted, same-word at (count-here b n at treeLimit counted), same-part (at + 1) (2 * count b at) (count-room b n at treeLimit counted))
-      (then-second (countCheck b n at treeLimit) _ e)
+  nodes-longer at e =
+      let counted = then-first (countCheck b at treeLimit) _ e in
+      rw (count-longer at treeLimit counted, same-word at (count-here b at treeLimit counted), same-part (at + 1) (2 * count b at) (count-room b at treeLimit counted))
+      (then-second (countCheck b at treeLimit) _ e)
 
-  rest-longer : (n k at : ℕ) → at + 1 < length b → restCheck b n k at ≡ Fine → restCheck (b ++ more) n k at ≡ Fine
+  rest-longer : (k at : ℕ) → at + 1 < length b → restCheck b k at ≡ Fine → restCheck (b ++ more) k at ≡ Fine
   unfolding restCheck
-  rest-longer n k at h e =
+  rest-longer k at h e =
       rw (same-word (at + 1) h)
-      (then-both (test (not (eqb k 3) || ltb 1 (count b (at + 1))) (refuse 6 6 n)) _
-      (then-first (test (not (eqb k 3) || ltb 1 (count b (at + 1))) (refuse 6 6 n)) _ e)
-      (go (eqb k 2) (then-second (test (not (eqb k 3) || ltb 1 (count b (at + 1))) (refuse 6 6 n)) _ e)))
+      (then-both (test (not (eqb k 3) || ltb 1 (count b (at + 1))) (refuse 6 6 (at + 1))) _
+      (then-first (test (not (eqb k 3) || ltb 1 (count b (at + 1))) (refuse 6 6 (at + 1))) _ e)
+      (go (eqb k 2) (then-second (test (not (eqb k 3) || ltb 1 (count b (at + 1))) (refuse 6 6 (at + 1))) _ e)))
     where
-      go : (t : Bool) → cond t (nodesCheck b n (treeAt at (count b (at + 1)))) Fine ≡ Fine → cond t (nodesCheck (b ++ more) n (treeAt at (count b (at + 1)))) Fine ≡ Fine
-      go true f = nodes-longer n (treeAt at (count b (at + 1))) f
+      go : (t : Bool) → cond t (nodesCheck b (treeAt at (count b (at + 1)))) Fine ≡ Fine → cond t (nodesCheck (b ++ more) (treeAt at (count b (at + 1)))) Fine ≡ Fine
+      go true f = nodes-longer (treeAt at (count b (at + 1))) f
       go false f = refl
 
   module _ (n at : ℕ) (e : frameCheck b n at ≡ Fine) where
-    steps-here : stepsCheck b n (at + 1) ≡ Fine
+    steps-here : stepsCheck b (at + 1) ≡ Fine
     unfolding frameCheck
-    steps-here = then-first (stepsCheck b n (at + 1)) (restCheck b n (kind b at) at) (then-second (test (kindRight (kind b at)) (refuse 8 6 n)) _ (then-second (test (ltb n frameLimit) (refuse 10 6 n)) _ e))
+    steps-here = then-first (stepsCheck b (at + 1)) (restCheck b (kind b at) at) (then-second (test (kindRight (kind b at)) (refuse 8 6 at)) _ (then-second (test (ltb n frameLimit) (refuse 10 6 at)) _ e))
 
     behind-count : at + 1 < length b
     unfolding stepsCheck
-    behind-count = count-here b n (at + 1) stepLimit (then-first (countCheck b n (at + 1) stepLimit) _ steps-here)
+    behind-count = count-here b (at + 1) stepLimit (then-first (countCheck b (at + 1) stepLimit) _ steps-here)
 
     pub frame-longer : frameCheck (b ++ more) n at ≡ Fine
     unfolding frameCheck
     frame-longer =
-        let later = then-second (test (ltb n frameLimit) (refuse 10 6 n)) _ e in
-        let body = then-second (test (kindRight (kind b at)) (refuse 8 6 n)) _ later in
+        let later = then-second (test (ltb n frameLimit) (refuse 10 6 at)) _ e in
+        let body = then-second (test (kindRight (kind b at)) (refuse 8 6 at)) _ later in
         rw (same-word at (omega (arith, behind-count)))
-        (then-both (test (ltb n frameLimit) (refuse 10 6 n)) _ (then-first (test (ltb n frameLimit) (refuse 10 6 n)) _ e)
-        (then-both (test (kindRight (kind b at)) (refuse 8 6 n)) _ (then-first (test (kindRight (kind b at)) (refuse 8 6 n)) _ later)
-        (then-both (stepsCheck (b ++ more) n (at + 1)) _
-        (steps-longer n (at + 1) (then-first (stepsCheck b n (at + 1)) (restCheck b n (kind b at) at) body))
-        (rest-longer n (kind b at) at behind-count (then-second (stepsCheck b n (at + 1)) (restCheck b n (kind b at) at) body)))))
+        (then-both (test (ltb n frameLimit) (refuse 10 6 at)) _ (then-first (test (ltb n frameLimit) (refuse 10 6 at)) _ e)
+        (then-both (test (kindRight (kind b at)) (refuse 8 6 at)) _ (then-first (test (kindRight (kind b at)) (refuse 8 6 at)) _ later)
+        (then-both (stepsCheck (b ++ more) (at + 1)) _
+        (steps-longer (at + 1) (then-first (stepsCheck b (at + 1)) (restCheck b (kind b at) at) body))
+        (rest-longer (kind b at) at behind-count (then-second (stepsCheck b (at + 1)) (restCheck b (kind b at) at) body)))))
 
     pub end-longer : endOf (b ++ more) at ≡ endOf b at
     unfolding endOf

@@ -12,12 +12,13 @@ use Rattle.batch_check.specs.Batches.{planCheck}
 use Rattle.batch_plan.specs.Batch.{Plan}
 use Rattle.outcomes.specs.declared.plans.Planned.{Planned}
 use Rattle.outcomes.specs.declared.plans.Planned.the-variants as planned
-use Rattle.text_plan_lines.specs.Printing.{threeOf, planText, Answered}
+use Rattle.text_plan_lines.specs.Printing.{refusalText, planText, Answered}
 use Rattle.outcomes.specs.declared.texts.Printed.{Printed}
-use Rattle.text_printer.specs.Printer.{PlanIs, refusal, plan, PrintedAs}
-use Rattle.text_printer.specs.Reading.{RanAs, PlanPrinted}
+use Rattle.text_printer.specs.Printer.{offsetIn, PlanIs, refusal, plan, PrintedAs}
+use Rattle.text_printer.specs.Reading.{RanAs, InLine, PlanPrinted}
 use Rattle.text_printer.specs.declared.Ran.{Ran}
 use Rattle.text_printer.specs.declared.Ran.the-variants as ran
+use Rattle.text_printer.proofs.Offsets.{stop-behind}
 use Rattle.text_printer.proofs.Accepting.{sofar-none, lines-taken, sofar-planned}
 
 -- the plan of a batch that is accepted
@@ -30,11 +31,16 @@ plan-is b before after long fine (planned.Frames n) e = record { words = e .2 .w
 
 -- from how the lines end to what is printed
 module _ (s batch kinds : List ℕ) (got : Ran) (e : RanAs s batch kinds got) where
-  pub stop-prints : {line : ℕ} {why : Refusal} → got ≡ ran.Stopped line why → {before after : List ℕ} {answer : Printed} → Answered (threeOf 65535 line (why .number)) before after answer
-      → PrintedAs s before after answer
-  stop-prints {line} {why} told a =
-      let here : RanAs s batch kinds (ran.Stopped line why) = rw told at e in
-      record { text = threeOf 65535 line (why .number); prints = refusal here; answered = a }
+  module _ {line words : ℕ} {why : Refusal} (told : got ≡ ran.Stopped line words why) where
+    stopped-there : RanAs s batch kinds (ran.Stopped line words why)
+    stopped-there = rw told at e
+
+    pub stop-within : InLine words why
+    stop-within = record { reached = λ line ten. stop-behind line ten stopped-there }
+
+    pub stop-prints : {offset : ℕ} → offset ≡ offsetIn words why → {before after : List ℕ} {answer : Printed} → Answered (refusalText line (why .number) offset) before after answer
+        → PrintedAs s before after answer
+    stop-prints is a = record { text = refusalText line (why .number) (offsetIn words why); prints = refusal stopped-there; answered = rw is at a }
 
   module _ {frames words : ℕ} (told : got ≡ ran.All frames words) where
     all-ran : RanAs s batch kinds (ran.All frames words)

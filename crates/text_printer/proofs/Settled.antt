@@ -39,11 +39,12 @@ text-one kinds p q (suc n) same = rw (text-one kinds p q n (λ k h. same k (omeg
 
 -- one text is printed
 prints-one : {s t u : List ℕ} → Prints s t → Prints s u → t ≡ u
-prints-one (refusal {line = l} {r = q} x) (refusal {line = m} {r = r} y) =
-    let same : stopped l q ≡ stopped m r = lines-one x y in
+prints-one (refusal {line = l} {before = a} {r = q} x) (refusal {line = m} {before = b} {r = r} y) =
+    let same : stopped l a q ≡ stopped m b r = lines-one x y in
     let line : l ≡ m = cc in
+    let words : a ≡ b = cc in
     let why : q ≡ r = cc in
-    rw (line, why)
+    rw (line, words, why)
 prints-one (refusal x) (plan y p) = let same = lines-one x y in let z : _≡_ {A = ℕ} 0 1 = cc in absurd (omega arith)
 prints-one (plan x p) (refusal y) = let same = lines-one x y in let z : _≡_ {A = ℕ} 0 1 = cc in absurd (omega arith)
 prints-one (plan {b = b} {kinds = ks} {plan = v} x p) (plan {b = c} {kinds = ls} {plan = w} y q) =

@@ -2,6 +2,7 @@
 use Prim.Native.Nat.{ℕ, _+_, _-_, _≤_, _<_}
 use mathlib.Core.Path.{_≡_}
 use mathlib.Core.List.{List, [], _∷_, _++_}
+use mathlib.Core.Bool.{_||_, cond}
 use lib.Dec.{eqb, leb}
 use lib.ListN.{length, getD}
 use Rattle.tables.specs.Limits.{batchLimit}
@@ -18,7 +19,7 @@ use Rattle.batch_plan.specs.Batch.{WordIs}
 use Rattle.text_digits.specs.Digits.{wordsOf}
 use Rattle.text_parts.specs.Next.{next}
 use Rattle.text_line_in.specs.Lines.{lineCheck}
-use Rattle.text_plan_lines.specs.Printing.{threeOf, planText, Answered}
+use Rattle.text_plan_lines.specs.Printing.{refusalText, planText, Answered}
 use Rattle.outcomes.specs.declared.texts.Printed.{Printed}
 
 -- where the line ends that begins at a place: at the next line feed, or at the end of the input
@@ -33,20 +34,21 @@ lineAt s at = part s at (lineEnd s at - at)
 unfoldable pub takeCheck : List ℕ → ℕ → List ℕ → Checked
 takeCheck l n b =
     lineCheck l (n + 1)
-    then test (leb (length (b ++ wordsOf l)) batchLimit) (refuse 10 6 0)
+    then test (leb (length (b ++ wordsOf l)) batchLimit) (refuse 10 6 batchLimit)
     then frameCheck (b ++ wordsOf l) n (length b)
-    then test (eqb (endOf (b ++ wordsOf l) (length b)) (length (b ++ wordsOf l))) (refuse 9 6 n)
+    then test (eqb (endOf (b ++ wordsOf l) (length b)) (length (b ++ wordsOf l))) (refuse 9 6 (endOf (b ++ wordsOf l) (length b)))
 
--- how the lines end: at the first refusal, with its line; or all are taken, with their words and the kinds of their frames
+-- how the lines end: at the first refusal, with its line and the number of words before that line; or all are taken, with their words and the kinds
+-- of their frames
 pub data Outcome : Type 0 where
-  stopped : (line : ℕ) → Refusal → Outcome
+  stopped : (line before : ℕ) → Refusal → Outcome
   taken : (words kinds : List ℕ) → Outcome
 
 -- the lines from a place on, behind n lines of words b, whose frames have these kinds
 pub data Lines (s : List ℕ) : ℕ → ℕ → List ℕ → List ℕ → Outcome → Type 0 where
   none : {at n : ℕ} {b kinds : List ℕ} → length s ≤ at → Lines s at n b kinds (taken b kinds)
   bad : {at n : ℕ} {b kinds : List ℕ} {r : Refusal} → at < length s → takeCheck (lineAt s at) n b ≡ checked.Refused r
-      → Lines s at n b kinds (stopped (n + 1) r)
+      → Lines s at n b kinds (stopped (n + 1) (length b) r)
   good : {at n : ℕ} {b kinds : List ℕ} {o : Outcome} → at < length s → takeCheck (lineAt s at) n b ≡ checked.Fine
       → Lines s (lineEnd s at + 1) (n + 1) (b ++ wordsOf (lineAt s at)) (kinds ++ (kind (b ++ wordsOf (lineAt s at)) (length b) ∷ [])) o
       → Lines s at n b kinds o
@@ -55,9 +57,13 @@ pub data Lines (s : List ℕ) : ℕ → ℕ → List ℕ → List ℕ → Outcom
 pub record PlanIs (b plan : List ℕ) : Type 0 where
   pub words : {k : ℕ} {f : Frame (List ℕ) Update} → At (batchOf b) k f → WordIs (batchOf b) k f (getD plan k 0)
 
--- what is printed: at a refusal only FFFF, the line number and the refusal number; else the plan
+-- the offset in the line, which is counted from its own first word: 0 for refusals 13 and 10
+unfoldable pub offsetIn : ℕ → Refusal → ℕ
+offsetIn before r = cond (eqb (r .number) 13 || eqb (r .number) 10) 0 (r .place - before)
+
+-- what is printed: at a refusal only FFFF, the line number, the refusal number and the offset in that line; else the plan
 pub data Prints (s : List ℕ) : List ℕ → Type 0 where
-  refusal : {line : ℕ} {r : Refusal} → Lines s 0 0 [] [] (stopped line r) → Prints s (threeOf 65535 line (r .number))
+  refusal : {line before : ℕ} {r : Refusal} → Lines s 0 0 [] [] (stopped line before r) → Prints s (refusalText line (r .number) (offsetIn before r))
   plan : {b kinds plan : List ℕ} → Lines s 0 0 [] [] (taken b kinds) → PlanIs b plan → Prints s (planText kinds plan (length kinds))
 
 -- what printing promises

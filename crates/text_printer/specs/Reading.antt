@@ -4,6 +4,7 @@ use mathlib.Core.Path.{_≡_}
 use mathlib.Core.List.{List, [], _++_}
 use lib.ListN.{length, take}
 use Rattle.tables.specs.Limits.{batchLimit, digitLimit}
+use Rattle.tables.specs.declared.refusal.Refusal.{Refusal}
 use Rattle.tables.specs.declared.refusal.Checked.the-variants as checked
 use Rattle.text_digits.specs.Digits.{wordsOf}
 use Rattle.text_plan_lines.specs.Printing.{planText, Answered}
@@ -30,11 +31,15 @@ TakenAs l n used before after (took.Words w) =
 
 -- all lines taken, with the frames and the words in use; or the first refusal
 abbrev pub RanAs : List ℕ → List ℕ → List ℕ → Ran → Type 0
-RanAs s batch kinds (ran.Stopped line why) = Lines s 0 0 [] [] (stopped line why)
+RanAs s batch kinds (ran.Stopped line before why) = Lines s 0 0 [] [] (stopped line before why)
 RanAs s batch kinds (ran.All frames words) =
     Lines s 0 0 [] [] (taken (take words batch) (take frames kinds))
     × (words ≤ length batch)
     × (frames ≤ length kinds)
+
+-- the place of a refusal lies in the line behind so many words, or is not asked for
+pub record InLine (before : ℕ) (why : Refusal) : Type 0 where
+  pub reached : (why .number ≡ 13 → ⊥) → (why .number ≡ 10 → ⊥) → before ≤ why .place
 
 -- the plan of a batch is printed
 pub record PlanPrinted (b kinds before after : List ℕ) (answer : Printed) : Type 0 where

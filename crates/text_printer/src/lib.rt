@@ -18,8 +18,8 @@ ghost use lib.ListN.{length};
 ghost use Rattle.tables.specs.Limits.{batchLimit, digitLimit, frameLimit};
 ghost use Rattle.tables.specs.declared.refusal.Checked.the-variants.{Fine};
 ghost use Rattle.batch_check.specs.Batches.{planCheck};
-ghost use Rattle.text_printer.specs.Printer.{PrintedAs};
-ghost use Rattle.text_printer.specs.Reading.{Roomy, TakenAs, RanAs, PlanPrinted};
+ghost use Rattle.text_printer.specs.Printer.{offsetIn, PrintedAs};
+ghost use Rattle.text_printer.specs.Reading.{Roomy, TakenAs, RanAs, InLine, PlanPrinted};
 
 // What taking a line answers: how many words are in use behind it.
 enum Taken {
@@ -27,9 +27,9 @@ enum Taken {
     Words(usize),
 }
 
-// How the lines end: at which line and why; or all are taken, with the frames and the words in use.
+// How the lines end: at which line, behind how many words, and why; or all are taken, with the frames and the words in use.
 enum Ran {
-    Stopped(usize, Refusal),
+    Stopped(usize, usize, Refusal),
     All(usize, usize),
 }
 
@@ -65,7 +65,7 @@ fn read_lines(s: &[u8], batch: &mut [u16], kinds: &mut [u16]) -> Ran
     while at < s.len() {
         let end = next_byte(s, at, 10);
         match take_line(&s[at..end], n, used, batch) {
-            Taken::Refused(why) => return Ran::Stopped(n + 1, why),
+            Taken::Refused(why) => return Ran::Stopped(n + 1, used, why),
             Taken::Words(words) => {
                 kinds[n] = batch[used];
                 used = words;
@@ -104,6 +104,20 @@ fn room() -> [u16; WORDS]
     [0; WORDS]
 }
 
+// The offset in the line behind so many words: 13 and 10 name none.
+fn offset_in(before: usize, why: Refusal) -> usize
+    requires { ⌜ InLine before why ⌝ }
+    ensures { λ r. ⌜ r ≡ offsetIn before why ⌝ }
+{
+    if why.number == 13 {
+        return 0;
+    }
+    if why.number == 10 {
+        return 0;
+    }
+    why.place - before
+}
+
 // From lines to the printed plan, or to the first refusal.
 pub fn print(input: &[u8], out: &mut [u8]) -> Printed
     ensures { λ r. ⌜ PrintedAs (now (input .entry)) (now (out .entry)) (now (out .exit)) r ⌝ }
@@ -111,7 +125,10 @@ pub fn print(input: &[u8], out: &mut [u8]) -> Printed
     let mut batch = room();
     let mut kinds = places();
     match read_lines(input, &mut batch, &mut kinds) {
-        Ran::Stopped(line, why) => print_refusal(line, why.number, out),
+        Ran::Stopped(line, before, why) => {
+            let offset = offset_in(before, why);
+            print_refusal(line, why.number, offset, out)
+        }
         Ran::All(frames, words) => print_plan(&batch[0..words], &kinds[0..frames], out),
     }
 }

@@ -18,6 +18,7 @@ rest-checked-spec =
     (λ c κs. search needs)
     (λ c. search rest-insert)
     (λ c. search rest-read)
+    (λ c. search needs)
     (λ c κs. search needs)
     (λ c. search rest-one)
     (λ c. search rest-delete))

@@ -7,7 +7,7 @@ use borrow.Author.Needs.{needs}
 use Rattle.tables.specs.Limits.{treeLimit}
 use Rattle.tables.specs.Checks.{treeCheck}
 use Rattle.tables.proofs.Branches.{then-off}
-use Rattle.batch_parts.specs.Parts.{nodesCheck}
+use Rattle.batch_parts.specs.Parts.{inNodes, nodesCheck}
 use Rattle.batch_parts.proofs.Branches.{count-room, part-on}
 use Rattle.batch_parts.proofs.nodes_checked.Statement.{statement}
 use Rattle.batch_parts.proofs.nodes_checked.Tie as tie
@@ -16,12 +16,12 @@ use Rattle.batch_parts.proofs.nodes_checked.Tie as tie
 room : (c : tie.After-word) → c .before .before .before .before .before .args .at + 1 + 2 * c .word .result ≤ length (c .before .before .before .before .before .args .b .now)
 room c =
     let fine = sym (c .before .before .before .counted .ensures) ∙ c .before .enum-told .given .1 in
-    omega (arith, count-room _ _ _ _ fine, c .word .ensures)
+    omega (arith, count-room _ _ _ fine, c .word .ensures)
 
 returns : tie.Need-returns
 unfolding nodesCheck
 returns c =
-    part-on (λ xs. treeCheck xs treeLimit 6) _ _ _ _ (c .before .before .before .before .counted .ensures) (c .before .before .enum-told .given .1) (c .before .word .ensures) (c .nodes-part .ensures)
+    part-on inNodes (λ xs. treeCheck xs treeLimit 6) _ _ _ (c .before .before .before .before .counted .ensures) (c .before .before .enum-told .given .1) (c .before .word .ensures) (c .nodes-part .ensures)
 
 returns-2 : tie.Need-returns-2
 unfolding nodesCheck

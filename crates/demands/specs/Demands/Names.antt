@@ -6,10 +6,10 @@ pub use Prim.Native.Nat.{ℕ, _+_, _*_, _-_, _/_, _<_, _≤_}
 pub use mathlib.Core.Path.{_≡_}
 pub use mathlib.Core.Bool.{true, false}
 pub use mathlib.Core.List.{List, [], _∷_, map, Perm}
-pub use mathlib.Core.Logic.{_↔_}
+pub use mathlib.Core.Logic.{_⊎_, _↔_}
 pub use lib.ListN.{length, getD, take, drop}
 -- words of tables, documents, refusals; the checks of patterns, trees and documents are promised by the functions of those names
-pub use Rattle.tables.specs.Limits.{treeLimit}
+pub use Rattle.tables.specs.Limits.{treeLimit, batchLimit, digitLimit}
 pub use Rattle.tables.specs.Words.{steps, nodes, tag, Bits16}
 pub use Rattle.tables.specs.Patterns.{Pattern}
 pub use Rattle.tables.specs.Documents.{Doc, doc, bare, mark, present, Sound}
@@ -51,7 +51,8 @@ pub use Rattle.marked.specs.Marked.{Marked}
 -- batches: stepAt is promised by the walker's next and by step, placeAfter and numberAfter by its moved, Plan by plan
 pub use Rattle.order.specs.Frames.{Frame, At, read, update, earlier, number}
 pub use Rattle.batch_walk.specs.Walking.{walkCheck, stepAt, placeAfter, numberAfter}
-pub use Rattle.batch_walk.specs.Walk.{callPlace, callGives, firstParts, GivesFrame}
+pub use Rattle.batch_walk.specs.Walk.{callPlace, callGives, firstParts, GivesFrame, StopsAt}
+pub use Rattle.batch_frame.specs.Faults.{named}
 pub use Rattle.outcomes.specs.declared.frames.Stepped.the-variants as walker
 pub use Rattle.batch_check.specs.Batches.{batchOf, batchCheck, planCheck}
 pub use Rattle.batch_plan.specs.Batch.{Plan, SlotIs}
@@ -79,7 +80,8 @@ pub use Rattle.text_xml.specs.Decimal.{decimal, Decimal}
 pub use Rattle.text_xml.specs.Tags.{childOf, children, elementOf, tagsOf, treeText, treeBytes}
 pub use Rattle.text_xml_out.specs.Writing.{writeTreeCheck, WriteTree}
 -- the printer: PrintedAs is promised by print
-pub use Rattle.text_printer.specs.Printer.{Lines, stopped, Prints, PrintedAs}
+pub use Rattle.text_printer.specs.Printer.{takeCheck, Lines, stopped, offsetIn, Prints, PrintedAs}
+pub use Rattle.text_printer.specs.Faults.{LineFault}
 pub use Rattle.text_printer.specs.Enough.{printedMost, inputMost}
 pub use Rattle.outcomes.specs.declared.texts.Printed.{Printed}
 pub use Rattle.outcomes.specs.declared.texts.Printed.the-variants as printed

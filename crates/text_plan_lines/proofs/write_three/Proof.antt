@@ -1,7 +1,6 @@
--- The digits, then the line feed behind them.
+-- The words of the numbers have their last four digits.
 use borrow.Author.Needs.{needs}
-use lib.ListN.{drop}
-use Rattle.text_plan_lines.proofs.Texts.{three-written, three-printed}
+use Rattle.text_plan_lines.proofs.Texts.{words-printed}
 use Rattle.text_plan_lines.proofs.write_three.Statement.{statement}
 use Rattle.text_plan_lines.proofs.write_three.Tie as tie
 
@@ -15,5 +14,4 @@ write-three-spec =
     (λ c. search needs)
     (λ c κs. search needs)
     (λ c. search needs)
-    (λ c. search needs)
-    (λ c. three-printed _ _ _ (drop 13 (c .before .before .before .before .before .before .before .before .before .args .out .now)) (c .before .before .before .before .before .before .before .low .ensures) (c .before .before .before .before .before .before .low2 .ensures) (c .before .before .before .before .before .low3 .ensures) (three-written _ _ _ (c .before .before .before .before .before .before .before .before .before .args .out .now) (c .before .before .before .before .before .before .before .before .before .pre) (c .before .before .write-line .last .1 .0) (c .before .before .write-line .result) (c .before .before .write-line .ensures))))
+    (λ c. words-printed _ _ (c .before .before .write-words .ensures) (rw (c .before .before .before .before .before .before .before .low .ensures, c .before .before .before .before .before .before .low2 .ensures, c .before .before .before .before .before .low3 .ensures))))

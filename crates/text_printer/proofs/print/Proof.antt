@@ -1,6 +1,6 @@
 -- How the lines end decides what is printed.
 use borrow.Author.Needs.{needs}
-use Rattle.text_printer.proofs.Promise.{stop-prints, all-words, all-frames, all-planned, all-prints}
+use Rattle.text_printer.proofs.Promise.{stop-within, stop-prints, all-words, all-frames, all-planned, all-prints}
 use Rattle.text_printer.proofs.print.Statement.{statement}
 use Rattle.text_printer.proofs.print.Tie as tie
 
@@ -14,6 +14,7 @@ print-spec =
     (λ c. search needs)
     (λ c κs. search needs)
     (λ c. search needs)
+    (λ c κs. stop-within (c .before .before .before .before .before .before .before .before .before .before .before .before .args .input .now) (c .before .before .before .before .before .read-lines .last .1 .0) (c .before .before .before .before .before .read-lines .last .1 .1 .0) (c .before .before .before .before .before .read-lines .result) (c .before .before .before .before .before .read-lines .ensures) (c .before .line .given .1))
     (λ c κs. search needs)
     (λ c. search needs)
     (λ c. search needs)
@@ -24,6 +25,6 @@ print-spec =
     (λ c. all-frames (c .before .before .before .before .before .before .before .before .before .before .before .before .before .before .before .args .input .now) (c .before .before .before .before .before .before .before .before .read-lines .last .1 .0) (c .before .before .before .before .before .before .before .before .read-lines .last .1 .1 .0) (c .before .before .before .before .before .before .before .before .read-lines .result) (c .before .before .before .before .before .before .before .before .read-lines .ensures) (c .before .before .before .before .frames .given .1))
     (λ c κs. all-planned (c .before .before .before .before .before .before .before .before .before .before .before .before .before .before .before .before .before .args .input .now) (c .before .before .before .before .before .before .before .before .before .before .read-lines .last .1 .0) (c .before .before .before .before .before .before .before .before .before .before .read-lines .last .1 .1 .0) (c .before .before .before .before .before .before .before .before .before .before .read-lines .result) (c .before .before .before .before .before .before .before .before .before .before .read-lines .ensures) (c .before .before .before .before .before .before .frames .given .1))
     (λ c. search needs)
-    (λ c. stop-prints (c .before .before .before .before .before .before .before .before .before .before .before .before .before .before .before .before .args .input .now) (c .before .before .before .before .before .before .before .before .before .read-lines .last .1 .0) (c .before .before .before .before .before .before .before .before .before .read-lines .last .1 .1 .0) (c .before .before .before .before .before .before .before .before .before .read-lines .result) (c .before .before .before .before .before .before .before .before .before .read-lines .ensures) (c .before .before .before .before .before .line .given .1) (c .before .before .print-refusal .ensures))
+    (λ c. stop-prints (c .before .before .before .before .before .before .before .before .before .before .before .before .before .before .before .before .before .args .input .now) (c .before .before .before .before .before .before .before .before .before .before .read-lines .last .1 .0) (c .before .before .before .before .before .before .before .before .before .before .read-lines .last .1 .1 .0) (c .before .before .before .before .before .before .before .before .before .before .read-lines .result) (c .before .before .before .before .before .before .before .before .before .before .read-lines .ensures) (c .before .before .before .before .before .before .line .given .1) (c .before .before .before .before .offset-in .ensures) (c .before .before .print-refusal .ensures))
     (λ c. search needs)
     (λ c. all-prints (c .before .before .before .before .before .before .before .before .before .before .before .before .before .before .before .before .before .before .before .before .args .input .now) (c .before .before .before .before .before .before .before .before .before .before .before .before .before .read-lines .last .1 .0) (c .before .before .before .before .before .before .before .before .before .before .before .before .before .read-lines .last .1 .1 .0) (c .before .before .before .before .before .before .before .before .before .before .before .before .before .read-lines .result) (c .before .before .before .before .before .before .before .before .before .before .before .before .before .read-lines .ensures) (c .before .before .before .before .before .before .before .before .before .frames .given .1) (c .before .before .print-plan .ensures)))

@@ -1,0 +1,187 @@
+//! Where the plan printer stops in its input, and why. What it prints for frames
+//! that are all accepted is not made here.
+
+use crate::batch::lone_frame;
+use crate::limits::{BATCH_WORDS, FRAMES, LINE_DIGITS};
+use crate::refusal::number;
+use std::fmt;
+
+/// Digits by their value.
+const DIGITS: &[u8; 16] = b"0123456789ABCDEF";
+
+/// Digits of a word.
+const WORD_DIGITS: usize = 4;
+
+/// Where the printer stops: the line, counted from 1, the refusal number and the
+/// offset in that line.
+#[derive(Clone, Copy, Debug, PartialEq, Eq)]
+pub struct Stop {
+    pub line: usize,
+    pub number: usize,
+    pub offset: usize,
+}
+
+impl fmt::Display for Stop {
+    /// The three numbers with a colon between.
+    fn fmt(&self, f: &mut fmt::Formatter<'_>) -> fmt::Result {
+        write!(f, "{}:{}:{}", self.line, self.number, self.offset)
+    }
+}
+
+/// Goes through lines as the printer does, up to its first refusal. Each line is
+/// looked at alone: of those before it only how many they are, and how many words
+/// they have, can matter.
+pub fn check(input: &str) -> Result<(), Stop> {
+    let mut words = 0;
+    for (lines, text) in input.split_terminator('\n').enumerate() {
+        words += check_line(text, lines, words).map_err(|(number, offset)| Stop {
+            line: lines + 1,
+            number,
+            offset,
+        })?;
+    }
+    Ok(())
+}
+
+/// The number of words of a line behind so many lines and words, else the refusal
+/// number and the offset in the line.
+fn check_line(text: &str, lines: usize, words: usize) -> Result<usize, (usize, usize)> {
+    let line = words_of(text).ok_or((number::WRONG_LINE, 0))?;
+    if words + line.len() > BATCH_WORDS || lines == FRAMES {
+        return Err((number::TOO_MANY, 0));
+    }
+    lone_frame(&line).map_err(|refusal| (refusal.number, refusal.place))?;
+    Ok(line.len())
+}
+
+/// The digits of a row of words.
+pub fn line_of(words: &[u16]) -> String {
+    words.iter().map(|word| format!("{word:04X}")).collect()
+}
+
+/// The words of a line, if it is well formed.
+fn words_of(text: &str) -> Option<Vec<u16>> {
+    if text.is_empty() || text.len() > LINE_DIGITS {
+        return None;
+    }
+    text.as_bytes().chunks(WORD_DIGITS).map(word_of).collect()
+}
+
+/// The word that four digits stand for, and no other bytes.
+fn word_of(text: &[u8]) -> Option<u16> {
+    if text.len() != WORD_DIGITS {
+        return None;
+    }
+    text.iter().try_fold(0, |word, byte| {
+        let digit = DIGITS.iter().position(|digit| digit == byte)?;
+        Some(16 * word + digit as u16)
+    })
+}
+
+#[cfg(test)]
+mod tests {
+    use super::*;
+
+    /// The shortest read.
+    const READ: &str = "0001000100000001";
+
+    /// An insert of so many wildcard steps and, below one root, so many nodes.
+    fn insert(steps: usize, nodes: usize) -> String {
+        let later = "00010000".repeat(steps - 1);
+        let star = "00000001".repeat(nodes);
+        format!("0002{steps:04X}00000000{later}{nodes:04X}{star}")
+    }
+
+    /// The answer for so many equal lines with another behind them.
+    fn behind(count: usize, line: &str, last: &str) -> String {
+        let lines = format!("{line}\n").repeat(count);
+        match check(&format!("{lines}{last}\n")) {
+            Ok(()) => "ok".to_string(),
+            Err(stop) => stop.to_string(),
+        }
+    }
+
+    /// The answer for a line behind so many reads.
+    fn behind_reads(count: usize, last: &str) -> String {
+        behind(count, READ, last)
+    }
+
+    #[test]
+    fn digits_come_back_as_words() {
+        let words = [0, 1, 0x9AB, 0xCDEF, 65_535];
+        assert_eq!(line_of(&words), "0000000109ABCDEFFFFF");
+        assert_eq!(words_of(&line_of(&words)), Some(words.to_vec()));
+    }
+
+    #[test]
+    fn lines_without_a_fault_are_taken() {
+        assert_eq!(check(""), Ok(()));
+        assert_eq!(check(READ), Ok(()));
+        assert_eq!(behind_reads(1, READ), "ok");
+        assert_eq!(insert(64, 256).len(), LINE_DIGITS);
+        assert_eq!(behind_reads(1, &insert(64, 256)), "ok");
+    }
+
+    #[test]
+    fn offsets_are_counted_in_the_line() {
+        assert_eq!(behind_reads(0, "0004"), "1:8:0");
+        assert_eq!(behind_reads(1, "000100020000000100030001"), "2:3:4");
+        assert_eq!(behind_reads(2, "00010000"), "3:1:1");
+        assert_eq!(behind_reads(2, "00010041"), "3:2:1");
+        assert_eq!(behind_reads(3, "0003000100000001"), "4:6:1");
+        assert_eq!(behind_reads(3, "0002000100000000000100010001"), "4:4:5");
+        assert_eq!(behind_reads(3, "0002000100000000000100000000"), "4:5:6");
+    }
+
+    #[test]
+    fn the_last_label_of_the_longest_line_has_an_offset() {
+        let line = insert(64, 256);
+        let zero = format!("{}0000", &line[..line.len() - 4]);
+        assert_eq!(behind_reads(1, &zero), "2:5:642");
+        assert_eq!(behind_reads(1, &line[..line.len() - 4]), "2:9:642");
+    }
+
+    #[test]
+    fn a_missing_word_is_behind_the_last_of_its_line() {
+        assert_eq!(behind_reads(0, "0001"), "1:9:1");
+        assert_eq!(behind_reads(1, "000100010000"), "2:9:3");
+        assert_eq!(behind(1, "000100010000", READ), "1:9:3");
+    }
+
+    #[test]
+    fn words_left_over_are_refused_last() {
+        assert_eq!(behind_reads(1, &READ.repeat(2)), "2:9:4");
+        assert_eq!(behind_reads(1, "00010001000000010001"), "2:9:4");
+        assert_eq!(behind_reads(1, "00030001000000010001"), "2:6:1");
+        let longest = format!("{}00000000", insert(64, 255));
+        assert_eq!(behind_reads(1, &longest), "2:9:641");
+    }
+
+    #[test]
+    fn malformed_lines_have_no_offset() {
+        let wrong = ["", "000", "00010", "000a", "000G", "+001", "0001 ", "00é"];
+        for line in wrong {
+            assert_eq!(behind_reads(1, line), "2:13:0");
+            assert_eq!(behind(1, line, READ), "1:13:0");
+        }
+        let too_long = format!("{}0000", insert(64, 256));
+        assert_eq!(behind_reads(1, &too_long), "2:13:0");
+    }
+
+    #[test]
+    fn frames_too_many_have_no_offset() {
+        assert_eq!(behind_reads(127, READ), "ok");
+        assert_eq!(behind_reads(128, READ), "129:10:0");
+        assert_eq!(behind_reads(128, "0000"), "129:10:0");
+        assert_eq!(behind_reads(128, "000"), "129:13:0");
+    }
+
+    #[test]
+    fn words_too_many_have_no_offset() {
+        let longest = insert(64, 256);
+        assert_eq!(behind(25, &longest, &insert(1, 152)), "ok");
+        assert_eq!(behind(25, &longest, &insert(1, 153)), "26:10:0");
+        assert_eq!(behind(25, &longest, &"0".repeat(4 * 309)), "26:8:0");
+        assert_eq!(behind(25, &longest, &"0".repeat(4 * 310)), "26:10:0");
+    }
+}
