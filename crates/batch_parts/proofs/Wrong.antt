@@ -3,7 +3,6 @@ use Prim.Native.Nat.{ℕ, _+_, _*_, _/_, _%_, _<_, _≤_}
 use mathlib.Core.Path.{_≡_, refl}
 use mathlib.Core.Bool.{false}
 use mathlib.Core.List.{List}
-use mathlib.Core.Logic.{_⊎_, inl, inr}
 use native.Mathlib.Nat.{add-zero}
 use native.Mathlib.Omega.{arith}
 use lib.Dec.{ltb, leb}
@@ -12,7 +11,7 @@ use lib.Seq.{getD-take}
 use borrow.Author.Tests.{ltb-true, ltb-false, leb-false, lt-ltb, le-leb}
 use Rattle.tables.specs.Limits.{stepLimit, treeLimit}
 use Rattle.tables.specs.Words.{tag}
-use Rattle.tables.specs.Checks.{_then_, test, refuse, sizeCheck, axisRight, patternCheck, parentRight, treeCheck}
+use Rattle.tables.specs.Checks.{test, refuse, sizeCheck, axisRight, patternCheck, parentRight, treeCheck}
 use Rattle.tables.specs.declared.refusal.Refusal.{Refusal}
 use Rattle.tables.specs.declared.refusal.Checked.{Checked}
 use Rattle.tables.specs.declared.refusal.Checked.the-variants.{Fine, Refused}
@@ -30,19 +29,20 @@ pub data WrongCount (b : List ℕ) (at limit : ℕ) (r : Refusal) : Type 0 where
 
 pub count-why : (b : List ℕ) (at limit : ℕ) {r : Refusal} → countCheck b at limit ≡ Refused r → WrongCount b at limit r
 unfolding countCheck
-count-why b at limit {r} e = first (then-why (test (ltb at (length b)) (refuse 9 6 (length b))) _ e)
-  where
-    third : at < length b → (test (leb (count b at) limit) (refuse 2 6 at) ≡ Refused r) ⊎ ((test (leb (count b at) limit) (refuse 2 6 at) ≡ Fine) × (test (leb (at + 1 + 2 * count b at) (length b)) (refuse 9 6 (length b)) ≡ Refused r)) → WrongCount b at limit r
-    third here (inl f) = let why = test-why (leb (count b at) limit) _ f in over here (leb-false (count b at) limit (why .0)) (why .1)
-    third here (inr f) = let why = test-why (leb (at + 1 + 2 * count b at) (length b)) _ (f .1) in short (leb-false _ (length b) (why .0)) (why .1)
-
-    second : at < length b → (test (ltb 0 (count b at)) (refuse 1 6 at) ≡ Refused r) ⊎ ((test (ltb 0 (count b at)) (refuse 1 6 at) ≡ Fine) × ((test (leb (count b at) limit) (refuse 2 6 at) then test (leb (at + 1 + 2 * count b at) (length b)) (refuse 9 6 (length b))) ≡ Refused r)) → WrongCount b at limit r
-    second here (inl f) = let why = test-why (ltb 0 (count b at)) _ f in none here (omega (arith, ltb-false 0 (count b at) (why .0))) (why .1)
-    second here (inr f) = third here (then-why (test (leb (count b at) limit) (refuse 2 6 at)) _ (f .1))
-
-    first : (test (ltb at (length b)) (refuse 9 6 (length b)) ≡ Refused r) ⊎ ((test (ltb at (length b)) (refuse 9 6 (length b)) ≡ Fine) × ((test (ltb 0 (count b at)) (refuse 1 6 at) then test (leb (count b at) limit) (refuse 2 6 at) then test (leb (at + 1 + 2 * count b at) (length b)) (refuse 9 6 (length b))) ≡ Refused r)) → WrongCount b at limit r
-    first (inl f) = let why = test-why (ltb at (length b)) _ f in absent (ltb-false at (length b) (why .0)) (why .1)
-    first (inr f) = second (ltb-true at (length b) (held (ltb at (length b)) _ (f .0))) (then-why (test (ltb 0 (count b at)) (refuse 1 6 at)) _ (f .1))
+count-why b at limit e =
+    then-why (test (ltb at (length b)) (refuse 9 6 (length b))) _
+    (λ f. let why = test-why (ltb at (length b)) _ f in absent (ltb-false at (length b) (why .0)) (why .1))
+    (λ there e.
+    let here : at < length b = ltb-true at (length b) (held (ltb at (length b)) _ there) in
+    then-why (test (ltb 0 (count b at)) (refuse 1 6 at)) _
+    (λ f. let why = test-why (ltb 0 (count b at)) _ f in none here (omega (arith, ltb-false 0 (count b at) (why .0))) (why .1))
+    (λ some e.
+    then-why (test (leb (count b at) limit) (refuse 2 6 at)) _
+    (λ f. let why = test-why (leb (count b at) limit) _ f in over here (leb-false (count b at) limit (why .0)) (why .1))
+    (λ within f. let why = test-why (leb (at + 1 + 2 * count b at) (length b)) _ f in short (leb-false _ (length b) (why .0)) (why .1))
+    e)
+    e)
+    e
 
 -- a part that has so many pairs has no wrong size
 module _ (b : List ℕ) (at limit : ℕ) (fine : countCheck b at limit ≡ Fine) where
@@ -78,17 +78,15 @@ module _ (b : List ℕ) (at : ℕ) {r : Refusal} where
 
   pub steps-why : stepsCheck b at ≡ Refused r → StepsWrong b at r
   unfolding stepsCheck
-  steps-why e = go (then-why (countCheck b at stepLimit) _ e)
+  steps-why e =
+      then-why (countCheck b at stepLimit) _
+      (λ f. count-of (count-why b at stepLimit f))
+      (λ fine f. on fine _ refl f)
+      e
     where
       on : countCheck b at stepLimit ≡ Fine → (c : Checked) → patternCheck (part b (at + 1) (2 * count b at)) stepLimit 6 ≡ c → inSteps (at + 1) c ≡ Refused r → StepsWrong b at r
       on fine Fine is f = never f refl
       on fine (Refused q) is f = axis-in fine (pattern-why (part b (at + 1) (2 * count b at)) stepLimit 6 is) f
-
-      go : (countCheck b at stepLimit ≡ Refused r)
-          ⊎ ((countCheck b at stepLimit ≡ Fine) × (inSteps (at + 1) (patternCheck (part b (at + 1) (2 * count b at)) stepLimit 6) ≡ Refused r))
-          → StepsWrong b at r
-      go (inl f) = count-of (count-why b at stepLimit f)
-      go (inr f) = on (f .0) _ refl (f .1)
 
 -- of nodes: the count, a parent or a label
 pub data NodesWrong (b : List ℕ) (at : ℕ) (r : Refusal) : Type 0 where
@@ -115,14 +113,12 @@ module _ (b : List ℕ) (at : ℕ) {r : Refusal} where
 
   pub nodes-why : nodesCheck b at ≡ Refused r → NodesWrong b at r
   unfolding nodesCheck
-  nodes-why e = go (then-why (countCheck b at treeLimit) _ e)
+  nodes-why e =
+      then-why (countCheck b at treeLimit) _
+      (λ f. node-count-of (count-why b at treeLimit f))
+      (λ fine f. on fine _ refl f)
+      e
     where
       on : countCheck b at treeLimit ≡ Fine → (c : Checked) → treeCheck (part b (at + 1) (2 * count b at)) treeLimit 6 ≡ c → inNodes (at + 1) c ≡ Refused r → NodesWrong b at r
       on fine Fine is f = never f refl
       on fine (Refused q) is f = node-in fine (tree-why (part b (at + 1) (2 * count b at)) treeLimit 6 is) f
-
-      go : (countCheck b at treeLimit ≡ Refused r)
-          ⊎ ((countCheck b at treeLimit ≡ Fine) × (inNodes (at + 1) (treeCheck (part b (at + 1) (2 * count b at)) treeLimit 6) ≡ Refused r))
-          → NodesWrong b at r
-      go (inl f) = node-count-of (count-why b at treeLimit f)
-      go (inr f) = on (f .0) _ refl (f .1)

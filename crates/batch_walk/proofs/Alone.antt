@@ -1,7 +1,7 @@
 -- The words of a frame, taken alone, are a batch of that frame.
 use Prim.Native.Nat.{ℕ, _+_, _*_, _-_, _<_, _≤_}
 use mathlib.Core.Path.{_≡_, refl, sym, _∙_}
-use mathlib.Core.Bool.{Bool, true, false, cond}
+use mathlib.Core.Bool.{Bool, true, false}
 use mathlib.Core.List.{List, [], _∷_}
 use native.Mathlib.Nat.{add-zero}
 use native.Mathlib.Omega.{arith}
@@ -11,7 +11,7 @@ use lib.Seq.{getD-take, getD-drop, ext-getD}
 use Rattle.tables.specs.declared.refusal.Checked.the-variants.{Fine}
 use Rattle.batch_parts.specs.Parts.{part, count}
 use Rattle.batch_frame.specs.Frames.{kind, treeAt, frameCheck, endOf}
-use Rattle.batch_frame.proofs.Ending.{end-behind}
+use Rattle.batch_frame.proofs.Ending.{steps-end, end-behind}
 use Rattle.batch_frame.proofs.Accepted.{end-room}
 use Rattle.batch_check.specs.Batches.{patternOf, treeOf, updateOf, meaning, batchOf}
 use Rattle.batch_check.proofs.Accepted.{part-length}
@@ -60,13 +60,8 @@ module _ (b : List ℕ) (n at : ℕ) (fine : frameCheck b n at ≡ Fine) where
   own-length = part-length b at width within
 
   steps-in : 2 + 2 * count b (at + 1) ≤ width
-  unfolding width endOf
-  steps-in = go (eqb (kind b at) 2)
-    where
-      go : (t : Bool)
-          → 2 + 2 * count b (at + 1) ≤ cond t (treeAt at (count b (at + 1)) + 1 + 2 * count b (treeAt at (count b (at + 1)))) (treeAt at (count b (at + 1))) - at
-      go true = omega arith
-      go false = omega arith
+  unfolding width
+  steps-in = omega (arith, steps-end b at)
 
   own-kind : kind own 0 ≡ kind b at
   unfolding own

@@ -3,7 +3,6 @@ use Prim.Native.Nat.{ℕ, _/_, _%_, _<_}
 use mathlib.Core.Path.{_≡_, refl}
 use mathlib.Core.Bool.{Bool, true, false, _&&_}
 use mathlib.Core.List.{List}
-use mathlib.Core.Logic.{_⊎_, inl, inr}
 use native.Mathlib.Omega.{arith}
 use lib.Dec.{eqb, ltb, leb}
 use lib.ListN.{length}
@@ -12,7 +11,7 @@ use Rattle.tables.specs.declared.refusal.Refusal.{Refusal}
 use Rattle.tables.specs.declared.refusal.Checked.{Checked}
 use Rattle.tables.specs.declared.refusal.Checked.the-variants.{Fine, Refused}
 use Rattle.tables.specs.Words.{steps, nodes, tag}
-use Rattle.tables.specs.Checks.{refuse, _then_, test, each, sizeCheck, axisRight, axisCheck, patternCheck, parentRight, nodeCheck, treeCheck}
+use Rattle.tables.specs.Checks.{refuse, _then_, test, sizeCheck, axisRight, axisCheck, patternCheck, parentRight, nodeCheck, treeCheck}
 use Rattle.tables.proofs.Accepted.{never}
 use Rattle.tables.proofs.First.{First, each-first}
 
@@ -22,20 +21,18 @@ test-why true q e = never e refl
 test-why false q e = (refl, cc)
 
 -- of two checks the first refuses, or it is fine and the second does
-pub then-why : (a b : Checked) {r : Refusal} → (a then b) ≡ Refused r → (a ≡ Refused r) ⊎ ((a ≡ Fine) × (b ≡ Refused r))
-then-why Fine b e = inr (refl, e)
-then-why (Refused q) b e = inl e
+pub then-why : {P : Type 0} (a b : Checked) {r : Refusal} → (a ≡ Refused r → P) → (a ≡ Fine → b ≡ Refused r → P) → (a then b) ≡ Refused r → P
+then-why Fine b first second e = second refl e
+then-why (Refused q) b first second e = first e
 
 -- the size has no place
 size-why : (n limit table : ℕ) {r : Refusal} → sizeCheck n limit table ≡ Refused r → r .place ≡ 0
 unfolding sizeCheck
-size-why n limit table {r} e = go (then-why (test (ltb 0 n && eqb (n % 2) 0) (refuse 1 table 0)) (test (leb (n / 2) limit) (refuse 2 table 0)) e)
-  where
-    go : (test (ltb 0 n && eqb (n % 2) 0) (refuse 1 table 0) ≡ Refused r)
-        ⊎ ((test (ltb 0 n && eqb (n % 2) 0) (refuse 1 table 0) ≡ Fine) × (test (leb (n / 2) limit) (refuse 2 table 0) ≡ Refused r))
-        → r .place ≡ 0
-    go (inl f) = let why = test-why (ltb 0 n && eqb (n % 2) 0) _ f in rw (why .1)
-    go (inr f) = let why = test-why (leb (n / 2) limit) _ (f .1) in rw (why .1)
+size-why n limit table e =
+    then-why (test (ltb 0 n && eqb (n % 2) 0) (refuse 1 table 0)) (test (leb (n / 2) limit) (refuse 2 table 0))
+    (λ f. rw (test-why (ltb 0 n && eqb (n % 2) 0) _ f .1))
+    (λ some f. rw (test-why (leb (n / 2) limit) _ f .1))
+    e
 
 -- what is wrong with a pattern: its size, or the axis of one of its steps
 pub data WrongSteps (p : List ℕ) (limit table : ℕ) (r : Refusal) : Type 0 where
@@ -44,14 +41,14 @@ pub data WrongSteps (p : List ℕ) (limit table : ℕ) (r : Refusal) : Type 0 wh
 
 pub pattern-why : (p : List ℕ) (limit table : ℕ) {r : Refusal} → patternCheck p limit table ≡ Refused r → WrongSteps p limit table r
 unfolding patternCheck axisCheck
-pattern-why p limit table {r} e = go (then-why (sizeCheck (length p) limit table) _ e)
-  where
-    at-step : First (axisCheck p table) 0 (steps p) r → WrongSteps p limit table r
-    at-step f = let why = test-why (axisRight p (f .at)) _ (f .here) in axis-of (f .at) (omega (arith, f .below)) (why .0) (why .1)
-
-    go : (sizeCheck (length p) limit table ≡ Refused r) ⊎ ((sizeCheck (length p) limit table ≡ Fine) × (each (axisCheck p table) 0 (steps p) ≡ Refused r)) → WrongSteps p limit table r
-    go (inl f) = size-of-steps f (size-why (length p) limit table f)
-    go (inr f) = at-step (each-first (axisCheck p table) r 0 (steps p) (f .1))
+pattern-why p limit table {r} e =
+    then-why (sizeCheck (length p) limit table) _
+    (λ f. size-of-steps f (size-why (length p) limit table f))
+    (λ sized f.
+    let first = each-first (axisCheck p table) r 0 (steps p) f in
+    let why = test-why (axisRight p (first .at)) _ (first .here) in
+    axis-of (first .at) (omega (arith, first .below)) (why .0) (why .1))
+    e
 
 -- what is wrong with a tree: its size, or the parent or the label of one of its nodes
 pub data WrongNodes (t : List ℕ) (limit table : ℕ) (r : Refusal) : Type 0 where
@@ -61,19 +58,17 @@ pub data WrongNodes (t : List ℕ) (limit table : ℕ) (r : Refusal) : Type 0 wh
 
 pub tree-why : (t : List ℕ) (limit table : ℕ) {r : Refusal} → treeCheck t limit table ≡ Refused r → WrongNodes t limit table r
 unfolding treeCheck nodeCheck
-tree-why t limit table {r} e = go (then-why (sizeCheck (length t) limit table) _ e)
+tree-why t limit table {r} e =
+    then-why (sizeCheck (length t) limit table) _
+    (λ f. size-of-nodes f (size-why (length t) limit table f))
+    (λ sized f. at-node (each-first (nodeCheck t table) r 0 (nodes t) f))
+    e
   where
-    at-node : (f : First (nodeCheck t table) 0 (nodes t) r)
-        → (test (parentRight t (f .at)) (refuse 4 table (f .at)) ≡ Refused r)
-        ⊎ ((test (parentRight t (f .at)) (refuse 4 table (f .at)) ≡ Fine) × (test (ltb 0 (tag t (f .at))) (refuse 5 table (f .at)) ≡ Refused r))
-        → WrongNodes t limit table r
-    at-node f (inl h) = let why = test-why (parentRight t (f .at)) _ h in parent-of (f .at) (omega (arith, f .below)) (why .0) (why .1)
-    at-node f (inr h) =
-        let why = test-why (ltb 0 (tag t (f .at))) _ (h .1) in
-        label-of (f .at) (omega (arith, f .below)) (omega (arith, ltb-false 0 (tag t (f .at)) (why .0))) (why .1)
-
-    go : (sizeCheck (length t) limit table ≡ Refused r) ⊎ ((sizeCheck (length t) limit table ≡ Fine) × (each (nodeCheck t table) 0 (nodes t) ≡ Refused r)) → WrongNodes t limit table r
-    go (inl f) = size-of-nodes f (size-why (length t) limit table f)
-    go (inr f) =
-        let first = each-first (nodeCheck t table) r 0 (nodes t) (f .1) in
-        at-node first (then-why (test (parentRight t (first .at)) (refuse 4 table (first .at))) _ (first .here))
+    at-node : First (nodeCheck t table) 0 (nodes t) r → WrongNodes t limit table r
+    at-node first =
+        let v = first .at in
+        let below : v < nodes t = omega (arith, first .below) in
+        then-why (test (parentRight t v) (refuse 4 table v)) (test (ltb 0 (tag t v)) (refuse 5 table v))
+        (λ f. let why = test-why (parentRight t v) _ f in parent-of v below (why .0) (why .1))
+        (λ right f. let why = test-why (ltb 0 (tag t v)) _ f in label-of v below (omega (arith, ltb-false 0 (tag t v) (why .0))) (why .1))
+        (first .here)

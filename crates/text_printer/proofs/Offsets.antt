@@ -8,7 +8,7 @@ use lib.Dec.{eqb, leb}
 use lib.ListN.{length, length-append}
 use borrow.Author.Tests.{eqb-false, ne-eqb}
 use Rattle.tables.specs.Limits.{batchLimit, digitLimit}
-use Rattle.tables.specs.Checks.{_then_, test, refuse}
+use Rattle.tables.specs.Checks.{test, refuse}
 use Rattle.tables.specs.declared.refusal.Refusal.{Refusal}
 use Rattle.tables.specs.declared.refusal.Checked.{Checked}
 use Rattle.tables.specs.declared.refusal.Checked.the-variants.{Fine, Refused}
@@ -18,7 +18,6 @@ use Rattle.batch_frame.specs.Frames.{endOf, frameCheck}
 use Rattle.batch_frame.proofs.Ending.{end-behind}
 use Rattle.batch_frame.proofs.Accepted.{end-room}
 use Rattle.batch_frame.proofs.Faulty.{frame-fault}
-use Rattle.batch_whole.specs.Whole.{wholeCheck}
 use Rattle.text_digits.specs.Digits.{wordsOf}
 use Rattle.text_digits.proofs.Returning.{length-wordsOf}
 use Rattle.text_line_in.specs.Lines.{lineCheck}
@@ -57,28 +56,13 @@ module _ (l : List ℕ) (n : ℕ) (b : List ℕ) (fine : lineCheck l (n + 1) ≡
   some = rw (length-append, length-wordsOf) (omega (arith, line-some l (n + 1) fine))
 
 module _ (l : List ℕ) (n : ℕ) (b : List ℕ) (r : Refusal) (line : r .number ≡ 13 → ⊥) (ten : r .number ≡ 10 → ⊥) where
-  module _ (fine : lineCheck l (n + 1) ≡ Fine) where
-    behind-frame : frameCheck (b ++ wordsOf l) n (length b) ≡ Fine
-        → test (eqb (endOf (b ++ wordsOf l) (length b)) (length (b ++ wordsOf l))) (refuse 9 6 (endOf (b ++ wordsOf l) (length b))) ≡ Refused r
-        → LineFault l n b r
-    behind-frame frame e =
-        let why = test-why (eqb (endOf (b ++ wordsOf l) (length b)) (length (b ++ wordsOf l))) _ e in
-        let other = eqb-false (endOf (b ++ wordsOf l) (length b)) (length (b ++ wordsOf l)) (why .0) in
-        rw (why .1) (left-over (omega (arith, end-room (b ++ wordsOf l) n (length b) frame, other)))
-
-    as-frame : (frameCheck (b ++ wordsOf l) n (length b) ≡ Refused r)
-        ⊎ ((frameCheck (b ++ wordsOf l) n (length b) ≡ Fine)
-        × (test (eqb (endOf (b ++ wordsOf l) (length b)) (length (b ++ wordsOf l))) (refuse 9 6 (endOf (b ++ wordsOf l) (length b))) ≡ Refused r))
-        → LineFault l n b r
-    as-frame (inl e) = in-frame (frame-fault (b ++ wordsOf l) n (length b) (some l n b fine) e)
-    as-frame (inr e) = behind-frame (e .0) (e .1)
-
-    of-words : (test (leb (length (b ++ wordsOf l)) batchLimit) (refuse 10 6 batchLimit) ≡ Refused r)
-        ⊎ ((test (leb (length (b ++ wordsOf l)) batchLimit) (refuse 10 6 batchLimit) ≡ Fine)
-        × ((frameCheck (b ++ wordsOf l) n (length b) then test (eqb (endOf (b ++ wordsOf l) (length b)) (length (b ++ wordsOf l))) (refuse 9 6 (endOf (b ++ wordsOf l) (length b)))) ≡ Refused r))
-        → LineFault l n b r
-    of-words (inl e) = let why = test-why (leb (length (b ++ wordsOf l)) batchLimit) _ e in absurd (ten (rw (why .1)))
-    of-words (inr e) = as-frame (then-why (frameCheck (b ++ wordsOf l) n (length b)) _ (e .1))
+  behind-frame : frameCheck (b ++ wordsOf l) n (length b) ≡ Fine
+      → test (eqb (endOf (b ++ wordsOf l) (length b)) (length (b ++ wordsOf l))) (refuse 9 6 (endOf (b ++ wordsOf l) (length b))) ≡ Refused r
+      → LineFault l n b r
+  behind-frame frame e =
+      let why = test-why (eqb (endOf (b ++ wordsOf l) (length b)) (length (b ++ wordsOf l))) _ e in
+      let other = eqb-false (endOf (b ++ wordsOf l) (length b)) (length (b ++ wordsOf l)) (why .0) in
+      rw (why .1) (left-over (omega (arith, end-room (b ++ wordsOf l) n (length b) frame, other)))
 
   line-thirteen : {A : Type 0} → lineCheck l (n + 1) ≡ Refused r → A
   line-thirteen e = go (line-only l (n + 1))
@@ -93,11 +77,19 @@ module _ (l : List ℕ) (n : ℕ) (b : List ℕ) (r : Refusal) (line : r .number
   -- a line that is refused by neither 13 nor 10 has a fault
   pub line-fault : takeCheck l n b ≡ Refused r → LineFault l n b r
   unfolding takeCheck
-  line-fault e = go (then-why (lineCheck l (n + 1)) _ e)
-    where
-      go : (lineCheck l (n + 1) ≡ Refused r) ⊎ ((lineCheck l (n + 1) ≡ Fine) × (wholeCheck (b ++ wordsOf l) n (length b) ≡ Refused r)) → LineFault l n b r
-      go (inl f) = line-thirteen f
-      go (inr f) = of-words (f .0) (then-why (test (leb (length (b ++ wordsOf l)) batchLimit) (refuse 10 6 batchLimit)) _ (f .1))
+  line-fault e =
+      then-why (lineCheck l (n + 1)) _
+      line-thirteen
+      (λ fine e.
+      then-why (test (leb (length (b ++ wordsOf l)) batchLimit) (refuse 10 6 batchLimit)) _
+      (λ f. absurd (ten (rw (test-why (leb (length (b ++ wordsOf l)) batchLimit) _ f .1))))
+      (λ within e.
+      then-why (frameCheck (b ++ wordsOf l) n (length b)) _
+      (λ f. in-frame (frame-fault (b ++ wordsOf l) n (length b) (some l n b fine) f))
+      behind-frame
+      e)
+      e)
+      e
 
   line-is : (c : Checked) → lineCheck l (n + 1) ≡ c → takeCheck l n b ≡ Refused r → lineCheck l (n + 1) ≡ Fine
   unfolding takeCheck
