@@ -132,6 +132,15 @@ static sloefertand_answer deep_insert_verdict(const argument *a) {
     return sloefertand_deep_insert_verdict(a[0].words, a[0].size, a[1].words, a[1].size, a[2].words, a[2].size);
 }
 
+static sloefertand_answer delete_evidence(const argument *a) {
+    return sloefertand_delete_evidence(a[0].words, a[0].size, a[1].words, a[1].size, a[2].words, a[2].size);
+}
+
+static sloefertand_answer insert_evidence(const argument *a) {
+    return sloefertand_insert_evidence(a[0].words, a[0].size, a[1].words, a[1].size, a[2].words, a[2].size, a[3].words,
+                                       a[3].size);
+}
+
 static sloefertand_answer step(const argument *a) {
     return sloefertand_step(a[0].words, a[0].size, a[1].size, a[2].size);
 }
@@ -176,6 +185,8 @@ static const function functions[] = {
     {"insert_verdict", insert_verdict, 1, {{"read", 'r'}, {"update", 'p'}, {"tree", 'x'}, {"witness", 't'}}},
     {"deep_delete_verdict", deep_delete_verdict, 1, {{"read", 'r'}, {"update", 'p'}}},
     {"deep_insert_verdict", deep_insert_verdict, 1, {{"read", 'r'}, {"update", 'p'}, {"tree", 'x'}}},
+    {"delete_evidence", delete_evidence, 1, {{"read", 'r'}, {"update", 'p'}, {"proposed", 't'}}},
+    {"insert_evidence", insert_evidence, 1, {{"read", 'r'}, {"update", 'p'}, {"tree", 'x'}, {"proposed", 't'}}},
     {"step", step, 4, {{"batch", 'x'}, {"number", 'u'}, {"at", 'v'}}},
     {"plan", plan, 1, {{"batch", 'x'}, {"plan", 't'}}},
     {"read_line", read_line, 1, {{"line", 'm'}, {"number", 'u'}, {"words", 't'}}},

@@ -1,7 +1,7 @@
 /* Measures the stack that each call of the library takes. A call runs on a stack of its own, which is filled with one byte before;
- * the deepest byte that changed says how far it went, less what a call of nothing takes. Patterns have 64 steps, inserted trees 256
- * nodes, each below the one before it, the batch fills its words, a plain reading has 8 steps on 16 nodes, a list has 256 names: the
- * longest of each, so that every inside is reached.
+ * the deepest byte that changed says how far it went, less what a call of nothing takes. Patterns have 64 steps, inserted and
+ * proposed trees 256 nodes, each below the one before it, the batch fills its words, a plain reading has 8 steps on 16 nodes, a
+ * list has 256 names: the longest of each, so that every inside is reached.
  *
  * Prints a line a function: its bytes, and the most that the header says. Status 1 where one takes more than that; 2 where a call
  * was refused, and so measured nothing. */
@@ -54,6 +54,12 @@ static void deep_delete_verdict(void) { answer = sloefertand_deep_delete_verdict
 static void deep_insert_verdict(void) {
     answer = sloefertand_deep_insert_verdict(steps, COUNT(steps), steps, COUNT(steps), tree, COUNT(tree));
 }
+static void delete_evidence(void) {
+    answer = sloefertand_delete_evidence(steps, COUNT(steps), steps, COUNT(steps), tree, COUNT(tree));
+}
+static void insert_evidence(void) {
+    answer = sloefertand_insert_evidence(steps, COUNT(steps), steps, COUNT(steps), tree, COUNT(tree), tree, COUNT(tree));
+}
 static void step(void) { answer = sloefertand_step(batch, batch_words, 0, 0); }
 static void planning(void) { answer = sloefertand_plan(batch, batch_words, plan, COUNT(plan)); }
 static void read_line(void) { answer = sloefertand_read_line(line, line_bytes, 1, words, COUNT(words)); }
@@ -84,6 +90,8 @@ static const struct measured {
     {"insert_verdict", insert_verdict, 26000},
     {"deep_delete_verdict", deep_delete_verdict, 10000},
     {"deep_insert_verdict", deep_insert_verdict, 26000},
+    {"delete_evidence", delete_evidence, 43000},
+    {"insert_evidence", insert_evidence, 45000},
     {"step", step, 2000},
     {"plan", planning, 27000},
     {"write_line", write_line, 2000},

@@ -1,15 +1,15 @@
 /*
- * Sloefertand for C and C++: reading and updating a tree held in tables, conflict verdicts, the plan of a batch, patterns as text,
- * trees as tags.
+ * Sloefertand for C and C++: reading and updating a tree held in tables, conflict verdicts, the check of another shop's witness,
+ * the plan of a batch, patterns as text, trees as tags.
  * Link with libsloefertand.a, which wants the C library's memset and memcpy and, on x86-64, nothing else. The library has no state
  * and no heap, prints nothing and always returns: calls on several threads are fine where no output is shared.
  *
  * STACK
- * What a call keeps for itself is on the stack. On x86-64 print takes at most 62,000 bytes of it; insert and delete 42,000;
- * write_tree 39,000, for 256 nodes each below the one before it; read 38,000, for a set of steps a node; plan 27,000;
- * insert_verdict and deep_insert_verdict 26,000; delete_verdict and deep_delete_verdict 10,000; read_pattern and write_pattern
- * 6,000; each other call 2,000. These are measured, by boundary/stack.c on the longest patterns, trees, batches and lists, and not
- * proved.
+ * What a call keeps for itself is on the stack. On x86-64 print takes at most 62,000 bytes of it; insert_evidence 45,000;
+ * delete_evidence 43,000; insert and delete 42,000; write_tree 39,000, for 256 nodes each below the one before it; read 38,000, for
+ * a set of steps a node; plan 27,000; insert_verdict and deep_insert_verdict 26,000; delete_verdict and deep_delete_verdict 10,000;
+ * read_pattern and write_pattern 6,000; each other call 2,000. These are measured, by boundary/stack.c on the longest patterns,
+ * trees, batches and lists, and not proved.
  *
  * BUFFERS
  * A buffer is a pointer and, behind it, its length in elements (uint16_t words or bytes, not sizeof). The caller answers for
@@ -48,7 +48,7 @@
  *       text that is no pattern's (table 7)                                         length of its longest start that fits
  *   15  a name that is not listed; a label without a name                           step
  * Steps, nodes, words and entries are counted from 0, lines from 1. The table at fault: 1 read, or a pattern on its own, 2 update,
- * 3 inserted tree, 4 output or room, 5 document, 6 batch, 7 text of a pattern, 8 list of names.
+ * 3 inserted tree, 4 output or room, 5 document or proposed tree, 6 batch, 7 text of a pattern, 8 list of names.
  * In a batch the table is 6, and the place is a word for every number but 7 (table 4, place 0) and 13: its offset from the start of
  * the batch. It is the count (1, 2), the axis (3), the parent (4), the label (5), the step count (6), the kind (8), the first word
  * missing, which is one past the last that is there (9), the start of the frame too many, or 16,384 for words (10). Which frame that
@@ -67,7 +67,7 @@ extern "C" {
 
 /* The limits. */
 #define SLOEFERTAND_STEPS 64u           /* steps of a pattern */
-#define SLOEFERTAND_TREE_NODES 256u     /* nodes of an inserted tree, and of one that is written as tags */
+#define SLOEFERTAND_TREE_NODES 256u     /* nodes of an inserted tree, of a proposed one, and of one that is written as tags */
 #define SLOEFERTAND_USED_NODES 4096u    /* nodes in use of a document */
 #define SLOEFERTAND_PLAIN_STEPS 8u      /* steps and nodes of a plain reading */
 #define SLOEFERTAND_PLAIN_NODES 16u
@@ -160,6 +160,26 @@ sloefertand_answer sloefertand_deep_delete_verdict(const uint16_t *read, size_t 
 
 sloefertand_answer sloefertand_deep_insert_verdict(const uint16_t *read, size_t read_words, const uint16_t *update,
                                                    size_t update_words, const uint16_t *tree, size_t tree_words);
+
+/* EVIDENCE: does a document that another shop proposes show that the update changes what the read selects? It is a tree of at
+ * most 256 nodes, from any source and of any shape. Nothing is written, and no room is asked for. first: 0 where the read selects
+ * the same nodes before and after the update, else the first node, by number, where it does not; that is never node 0. A witness
+ * that a verdict wrote always shows a difference: pass the words that it has, 2 * first of that verdict. */
+
+/* A read and a delete. first: 0, or the first node of `proposed` that is lost: the read selects it, and the delete removes it or
+ * a node above it.
+ * Refusals: the read's (1, 2, 3 of table 1), the update's (1, 2, 3 of table 2), the proposed tree's (1, 2, 4, 5 of table 5), then
+ * 6 of table 2. */
+sloefertand_answer sloefertand_delete_evidence(const uint16_t *read, size_t read_words, const uint16_t *update,
+                                               size_t update_words, const uint16_t *proposed, size_t proposed_words);
+
+/* A read and an insert of `tree`. first: 0, or the first new node that the read selects, by the number that the insert gives it:
+ * the copies stand behind the nodes of `proposed`, one for each update point in rising number, each numbered as `tree` is.
+ * Whether a document has room for them is not asked: the number may pass 4,095, and goes up to 65,535.
+ * Refusals: the read's, the update's, the tree's (1, 2, 4, 5 of table 3), the proposed tree's (1, 2, 4, 5 of table 5). */
+sloefertand_answer sloefertand_insert_evidence(const uint16_t *read, size_t read_words, const uint16_t *update,
+                                               size_t update_words, const uint16_t *tree, size_t tree_words,
+                                               const uint16_t *proposed, size_t proposed_words);
 
 /* BATCHES */
 

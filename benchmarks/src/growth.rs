@@ -3,7 +3,7 @@
 use crate::documents::Document;
 use crate::inputs::{chain, random_tree};
 use crate::measure::text;
-use crate::rows::{delete_verdict, insert_verdict, plan, read_document, reads, write_tree, LABELS};
+use crate::rows::{delete_verdict, insert_evidence, insert_verdict, plan, read_document, reads, write_tree, LABELS};
 
 /// A size: its time, and how much more than at the size before.
 fn print_size(what: &str, size: usize, times: &[f64], before: &mut Option<f64>) {
@@ -33,6 +33,16 @@ pub fn print() {
         insert_verdict(64, n)
     });
     print_sizes("plan, frames of 63 steps", &[8, 16, 32, 64, 128], |n| plan(n, 63));
+    print_sizes(
+        "proposed tree, insert, read of 3 steps, nodes of both trees, last new node",
+        &[32, 64, 128, 256],
+        |n| insert_evidence(3, n, true),
+    );
+    print_sizes(
+        "proposed tree, insert, read of 64 steps, nodes of both trees, no difference",
+        &[32, 64, 128, 256],
+        |n| insert_evidence(64, n, false),
+    );
     print_sizes("tags, nodes of a random tree", &[32, 64, 128, 256], |n| {
         write_tree(&random_tree(n, LABELS))
     });

@@ -26,6 +26,13 @@ pub fn descending(steps: usize, root: u16, name: u16) -> Vec<u16> {
     pattern
 }
 
+/// The same with this name at the last step.
+pub fn descending_to(steps: usize, root: u16, name: u16, end: u16) -> Vec<u16> {
+    let mut pattern = descending(steps, root, name);
+    pattern[2 * steps - 1] = end;
+    pattern
+}
+
 /// A tree in which every node hangs below one drawn from those before it, with names from 1 on.
 pub fn random_tree(nodes: usize, names: usize) -> Vec<u16> {
     let mut draws = Draws::new();
@@ -42,6 +49,15 @@ pub fn chain(nodes: usize, names: usize) -> Vec<u16> {
     let mut tree = vec![0, 1];
     for v in 1..nodes {
         tree.extend([v as u16 - 1, 1 + draws.below(names) as u16]);
+    }
+    tree
+}
+
+/// A chain with name 1 at the root, this one at the last node and 2 at all between.
+pub fn chain_to(nodes: usize, name: u16) -> Vec<u16> {
+    let mut tree = vec![0, 1];
+    for v in 1..nodes {
+        tree.extend([v as u16 - 1, if v + 1 == nodes { name } else { 2 }]);
     }
     tree
 }

@@ -80,6 +80,24 @@ extern "C" {
         witness: *mut u16,
         witness_words: usize,
     ) -> Answer;
+    fn sloefertand_delete_evidence(
+        read: *const u16,
+        read_words: usize,
+        update: *const u16,
+        update_words: usize,
+        proposed: *const u16,
+        proposed_words: usize,
+    ) -> Answer;
+    fn sloefertand_insert_evidence(
+        read: *const u16,
+        read_words: usize,
+        update: *const u16,
+        update_words: usize,
+        tree: *const u16,
+        tree_words: usize,
+        proposed: *const u16,
+        proposed_words: usize,
+    ) -> Answer;
     fn sloefertand_plan(batch: *const u16, batch_words: usize, plan: *mut u16, plan_words: usize) -> Answer;
     fn sloefertand_write_tree(tree: *const u16, tree_words: usize, text: *mut u8, text_bytes: usize) -> Answer;
 }
@@ -123,6 +141,38 @@ pub fn insert_verdict(read: &[u16], update: &[u16], tree: &[u16], witness: &mut 
             tree.len(),
             witness.as_mut_ptr(),
             witness.len(),
+        )
+    })
+}
+
+/// The first node of a proposed tree that is lost to the read, 0 for none.
+pub fn delete_evidence(read: &[u16], update: &[u16], proposed: &[u16]) -> Counted {
+    // As in `read`; nothing is written.
+    counted(unsafe {
+        sloefertand_delete_evidence(
+            read.as_ptr(),
+            read.len(),
+            update.as_ptr(),
+            update.len(),
+            proposed.as_ptr(),
+            proposed.len(),
+        )
+    })
+}
+
+/// The first new node that the read selects after an insert of a tree, 0 for none.
+pub fn insert_evidence(read: &[u16], update: &[u16], tree: &[u16], proposed: &[u16]) -> Counted {
+    // As in `read`; nothing is written.
+    counted(unsafe {
+        sloefertand_insert_evidence(
+            read.as_ptr(),
+            read.len(),
+            update.as_ptr(),
+            update.len(),
+            tree.as_ptr(),
+            tree.len(),
+            proposed.as_ptr(),
+            proposed.len(),
         )
     })
 }

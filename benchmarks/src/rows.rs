@@ -1,7 +1,7 @@
 //! The rows at full size.
 
 use crate::documents::{read, Document, Read};
-use crate::inputs::{batch, chain, depth, descending, random_tree};
+use crate::inputs::{batch, chain, chain_to, depth, descending, descending_to, random_tree};
 use crate::measure::{fastest, text};
 use crate::{peer, proved};
 use std::hint::black_box;
@@ -60,6 +60,48 @@ pub fn insert_verdict(steps: usize, nodes: usize) -> Vec<f64> {
     };
     let mut theirs = || {
         let _ = black_box(peer::verdict::insert_verdict(black_box(&read), &update, &tree, &mut b));
+    };
+    fastest(&mut [&mut ours, &mut theirs])
+}
+
+/// A delete on a proposed chain of so many nodes, both patterns of so many steps. It removes the last node alone; the read
+/// selects that, or only nodes before it.
+pub fn delete_evidence(steps: usize, nodes: usize, shown: bool) -> Vec<f64> {
+    let read = descending_to(steps, 1, 0, if shown { 0 } else { 2 });
+    let update = descending_to(steps, 1, 0, 3);
+    let proposed = chain_to(nodes, 3);
+    let found = proved::delete_evidence(&read, &update, &proposed);
+    assert_eq!(found, peer::evidence::delete_evidence(&read, &update, &proposed));
+    assert_eq!(found, Ok(if shown { nodes - 1 } else { 0 }));
+    let mut ours = || {
+        let _ = black_box(proved::delete_evidence(black_box(&read), &update, &proposed));
+    };
+    let mut theirs = || {
+        let _ = black_box(peer::evidence::delete_evidence(black_box(&read), &update, &proposed));
+    };
+    fastest(&mut [&mut ours, &mut theirs])
+}
+
+/// An insert of a chain of so many nodes at every node below the root of a proposed chain of as many, and a read of so many steps.
+/// It selects the last node of the last copy alone, or none: then the proposed chain's last node has another name.
+pub fn insert_evidence(steps: usize, nodes: usize, shown: bool) -> Vec<f64> {
+    let mut read = descending_to(steps, 1, 0, 4);
+    read[3] = 3;
+    let update = descending(2, 1, 0);
+    let (tree, proposed) = (chain_to(nodes, 4), chain_to(nodes, if shown { 3 } else { 2 }));
+    let found = proved::insert_evidence(&read, &update, &tree, &proposed);
+    assert_eq!(found, peer::evidence::insert_evidence(&read, &update, &tree, &proposed));
+    assert_eq!(found, Ok(if shown { nodes * nodes - 1 } else { 0 }));
+    let mut ours = || {
+        let _ = black_box(proved::insert_evidence(black_box(&read), &update, &tree, &proposed));
+    };
+    let mut theirs = || {
+        let _ = black_box(peer::evidence::insert_evidence(
+            black_box(&read),
+            &update,
+            &tree,
+            &proposed,
+        ));
     };
     fastest(&mut [&mut ours, &mut theirs])
 }
@@ -193,6 +235,16 @@ pub fn print() {
         &insert_verdict(64, 256),
     );
     print_row("plan, 128 frames of 63 steps, 4,096 verdicts", &plan(128, 63));
+    for steps in [3, 64] {
+        for (shown, end) in [(true, "last new node"), (false, "no difference")] {
+            let name = format!("proposed tree, insert, 255 points, 256 inserted nodes, read of {steps} steps, {end}");
+            print_row(&name, &insert_evidence(steps, 256, shown));
+        }
+    }
+    for (shown, end) in [(true, "last node lost"), (false, "no difference")] {
+        let name = format!("proposed tree, delete, 256 nodes, 64 against 64 steps, {end}");
+        print_row(&name, &delete_evidence(64, 256, shown));
+    }
     print_row(
         "tags, random tree, 256 nodes, labels to 5 digits",
         &write_tree(&random_tree(256, LABELS)),

@@ -1,6 +1,6 @@
 /* What a program in C does with the library: it plans a batch, finds the word at fault in another, reads a line, asks for verdicts,
- * writes a witness as XML, reads a document, reads and writes patterns as text and meets refusals. examples/run builds and runs it.
- * Names a to e are the labels 1 to 5; the patterns as text have names of their own. */
+ * writes a witness as XML, checks those of a partner, reads a document, reads and writes patterns as text and meets refusals.
+ * examples/run builds and runs it. Names a to e are the labels 1 to 5; the patterns as text have names of their own. */
 #include <stdint.h>
 #include <stdio.h>
 #include <string.h>
@@ -117,6 +117,18 @@ static void show_deep(sloefertand_answer deep) {
     if (!refused(deep)) {
         printf("deep verdict: %s\n", deep.first == 1 ? "yes" : "no");
     }
+}
+
+/* What a partner's tree shows of an update: the node that is lost, or the new one, or nothing. */
+static void show_evidence(const char *update, sloefertand_answer evidence, const char *change) {
+    if (refused(evidence)) {
+        return;
+    }
+    if (evidence.first == 0) {
+        printf("%s: no difference\n", update);
+        return;
+    }
+    printf("%s: node %zu is %s\n", update, evidence.first, change);
 }
 
 /* The nodes of a document that a pattern selects. */
@@ -237,6 +249,19 @@ int main(void) {
     printf("\nread a/b, insert c at a/b\n");
     show_insert_verdict(a_b, COUNT(a_b), a_b, COUNT(a_b), leaf_c, COUNT(leaf_c));
     show_deep(sloefertand_deep_insert_verdict(a_b, COUNT(a_b), a_b, COUNT(a_b), leaf_c, COUNT(leaf_c)));
+
+    /* a over d, b and c; c below that d; d below that b, and c below it */
+    static const uint16_t bushy[] = {0, 1, 0, 4, 0, 2, 0, 3, 1, 3, 2, 4, 5, 3};
+    /* a over b and c */
+    static const uint16_t flat[] = {0, 1, 0, 2, 0, 3};
+    printf("\na partner's trees as evidence, read a//c\n");
+    sloefertand_answer lost = sloefertand_delete_evidence(a_any_c, COUNT(a_any_c), a_b, COUNT(a_b), bushy, COUNT(bushy));
+    show_evidence("delete a/b", lost, "lost");
+    sloefertand_answer new_node =
+        sloefertand_insert_evidence(a_any_c, COUNT(a_any_c), a_b, COUNT(a_b), leaf_c, COUNT(leaf_c), bushy, COUNT(bushy));
+    show_evidence("insert c at a/b", new_node, "new");
+    sloefertand_answer none = sloefertand_delete_evidence(a_any_c, COUNT(a_any_c), a_b, COUNT(a_b), flat, COUNT(flat));
+    show_evidence("delete a/b, another tree", none, "lost");
 
     printf("\nread a//c of a document\n");
     show_read(a_any_c, COUNT(a_any_c));

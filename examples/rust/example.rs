@@ -1,6 +1,6 @@
 //! What a program in Rust does with the library: it plans a batch, finds the word at fault in another, reads a line, asks for verdicts,
-//! writes a witness as XML, reads a document, reads and writes patterns as text and meets refusals. `examples/run` builds and runs it.
-//! Names a to e are the labels 1 to 5; the patterns as text have names of their own.
+//! writes a witness as XML, checks those of a partner, reads a document, reads and writes patterns as text and meets refusals.
+//! `examples/run` builds and runs it. Names a to e are the labels 1 to 5; the patterns as text have names of their own.
 
 /// The library behind safe functions over slices: `include/sloefertand.h` says what each promises and refuses.
 mod sloefertand {
@@ -97,6 +97,24 @@ mod sloefertand {
                 update_words: usize,
                 tree: *const u16,
                 tree_words: usize,
+            ) -> Answer;
+            pub fn sloefertand_delete_evidence(
+                read: *const u16,
+                read_words: usize,
+                update: *const u16,
+                update_words: usize,
+                proposed: *const u16,
+                proposed_words: usize,
+            ) -> Answer;
+            pub fn sloefertand_insert_evidence(
+                read: *const u16,
+                read_words: usize,
+                update: *const u16,
+                update_words: usize,
+                tree: *const u16,
+                tree_words: usize,
+                proposed: *const u16,
+                proposed_words: usize,
             ) -> Answer;
             pub fn sloefertand_step(
                 batch: *const u16,
@@ -240,6 +258,47 @@ mod sloefertand {
             )
         };
         answer.values().map(|values| values.first == 1)
+    }
+
+    /// The first node of the proposed tree that the read loses by the delete; 0 where it selects the same nodes before and after.
+    pub fn delete_evidence(
+        read: &[u16],
+        update: &[u16],
+        proposed: &[u16],
+    ) -> Result<usize, Refusal> {
+        let answer = unsafe {
+            exported::sloefertand_delete_evidence(
+                read.as_ptr(),
+                read.len(),
+                update.as_ptr(),
+                update.len(),
+                proposed.as_ptr(),
+                proposed.len(),
+            )
+        };
+        answer.values().map(|values| values.first)
+    }
+
+    /// The same of an insert of `tree`: the first new node that the read selects, by the number that the insert gives it.
+    pub fn insert_evidence(
+        read: &[u16],
+        update: &[u16],
+        tree: &[u16],
+        proposed: &[u16],
+    ) -> Result<usize, Refusal> {
+        let answer = unsafe {
+            exported::sloefertand_insert_evidence(
+                read.as_ptr(),
+                read.len(),
+                update.as_ptr(),
+                update.len(),
+                tree.as_ptr(),
+                tree.len(),
+                proposed.as_ptr(),
+                proposed.len(),
+            )
+        };
+        answer.values().map(|values| values.first)
     }
 
     /// The frame at word `at`: its kind, where it ends, its steps and its nodes.
@@ -415,6 +474,15 @@ fn show_deep(yes: bool) {
     println!("deep verdict: {}", if yes { "yes" } else { "no" });
 }
 
+/// What a partner's tree shows of an update: the node that is lost, or the new one, or nothing.
+fn show_evidence(update: &str, node: usize, change: &str) {
+    if node == 0 {
+        println!("{update}: no difference");
+        return;
+    }
+    println!("{update}: node {node} is {change}");
+}
+
 /// The nodes of a document that a pattern selects.
 fn show_read(pattern: &[u16]) -> Result<(), Refusal> {
     // a over b and c, and c below that b
@@ -522,6 +590,18 @@ fn show_all() -> Result<(), Refusal> {
     println!("\nread a/b, insert c at a/b");
     show_insert_verdict(&A_B, &A_B, &LEAF_C)?;
     show_deep(sloefertand::deep_insert_verdict(&A_B, &A_B, &LEAF_C)?);
+
+    // a over d, b and c; c below that d; d below that b, and c below it
+    let bushy = [0, 1, 0, 4, 0, 2, 0, 3, 1, 3, 2, 4, 5, 3];
+    // a over b and c
+    let flat = [0, 1, 0, 2, 0, 3];
+    println!("\na partner's trees as evidence, read a//c");
+    let lost = sloefertand::delete_evidence(&A_ANY_C, &A_B, &bushy)?;
+    show_evidence("delete a/b", lost, "lost");
+    let new = sloefertand::insert_evidence(&A_ANY_C, &A_B, &LEAF_C, &bushy)?;
+    show_evidence("insert c at a/b", new, "new");
+    let none = sloefertand::delete_evidence(&A_ANY_C, &A_B, &flat)?;
+    show_evidence("delete a/b, another tree", none, "lost");
 
     println!("\nread a//c of a document");
     show_read(&A_ANY_C)?;

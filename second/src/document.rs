@@ -45,7 +45,7 @@ impl Document {
         }
         let mut tree = self.linked();
         let points = selected(&tree, pattern);
-        let removed = delete_at(&mut tree, points);
+        let removed = delete_at(&mut tree, points.rising());
         self.write_back(&tree);
         Ok(removed)
     }
@@ -58,7 +58,7 @@ impl Document {
         if self.used + points.size() * inserted.len() > self.room() {
             return Err(refused(number::NO_ROOM, ROOM));
         }
-        let copies = insert_at(&mut tree, points, inserted);
+        let copies = insert_at(&mut tree, points.rising(), inserted);
         self.write_back(&tree);
         Ok(copies)
     }

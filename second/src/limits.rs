@@ -6,6 +6,9 @@ pub const STEPS: usize = 64;
 /// An inserted tree has at most this many nodes.
 pub const INSERTED_NODES: usize = 256;
 
+/// A tree that is proposed as a witness has at most this many nodes.
+pub const PROPOSED_NODES: usize = 256;
+
 /// A tree that is written as tags has at most this many nodes.
 pub const TAGGED_NODES: usize = 256;
 

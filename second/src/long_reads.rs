@@ -21,7 +21,7 @@ const PATTERNS: usize = 64;
 const NODES: usize = 256;
 
 /// The labels of the nodes, which have bytes in common.
-const LABELS: [u16; 6] = [0x0001, 0x0100, 0x0101, 0x0201, 0xFF01, 0xFFFF];
+pub const LABELS: [u16; 6] = [0x0001, 0x0100, 0x0101, 0x0201, 0xFF01, 0xFFFF];
 
 /// From this document on there are removed nodes.
 const FIRST_MARKED: usize = 4;
@@ -92,11 +92,18 @@ fn document(d: usize) -> Tree {
 }
 
 /// Pattern k of so many steps for document d. It is drawn along a way up from a
-/// node, the last step first; one step may then have a label of its own.
+/// node; one step may then have a label of its own.
 fn pattern(tree: &Tree, size: usize, d: usize, k: usize) -> Pattern {
     let mut draws = Draws::from_state(1000 * size + 100 * d + k);
     let strange = (PATTERNS * d + k) % (2 * size);
-    let mut node = 2 * size + draws.below(NODES - 2 * size);
+    let node = 2 * size + draws.below(NODES - 2 * size);
+    along(tree, size, strange, node, &mut draws)
+}
+
+/// A pattern of so many steps along a way up from a node, the last step drawn
+/// first. The step `strange`, if there is one, has a label of its own.
+pub fn along(tree: &Tree, size: usize, strange: usize, node: usize, draws: &mut Draws) -> Pattern {
+    let mut node = node;
     let mut steps = Vec::with_capacity(size);
     for step in (0..size).rev() {
         let choice = draws.below(LABELS.len());

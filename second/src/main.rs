@@ -1,19 +1,23 @@
-//! Sloefertand's second program: nine tables, found by trying all small trees, making all
+//! Sloefertand's second program: ten tables, found by trying all small trees, making all
 //! small texts, and drawing some long patterns and some large trees.
 
 mod batch;
 mod buffers;
 mod carrying;
+mod checks;
 mod classes;
 mod counts;
 mod damage;
+mod damaged_proposals;
 mod digest;
 mod document;
 mod documents;
 mod draws;
 mod either_order;
+mod evidence;
 #[cfg(test)]
 mod examples;
+mod large_proposals;
 mod letters;
 mod limits;
 mod lines;
@@ -26,11 +30,14 @@ mod pattern_texts;
 mod placing;
 mod plans;
 mod printer;
+mod proposal_trees;
+mod proposals;
 mod refusal;
 mod right_lists;
 mod right_texts;
 mod rows;
 mod single_bytes;
+mod table_damages;
 mod tag_trees;
 mod tags;
 mod texts;
@@ -51,7 +58,7 @@ use std::io::{self, BufWriter, Write};
 use std::process::ExitCode;
 
 const USAGE: &str =
-    "usage: second [pairs | documents | damage | plans | texts | deletes | reads | tags | lines | counts]";
+    "usage: second [pairs | documents | damage | plans | texts | deletes | reads | tags | lines | evidence | counts]";
 
 /// What is asked for.
 #[derive(Clone, Copy, PartialEq, Eq)]
@@ -66,6 +73,7 @@ enum Wanted {
     Reads,
     Tags,
     Lines,
+    Evidence,
     Counts,
 }
 
@@ -83,6 +91,7 @@ fn wanted(arguments: &[OsString]) -> Option<Wanted> {
             "reads" => Some(Wanted::Reads),
             "tags" => Some(Wanted::Tags),
             "lines" => Some(Wanted::Lines),
+            "evidence" => Some(Wanted::Evidence),
             "counts" => Some(Wanted::Counts),
             _ => None,
         },
@@ -90,7 +99,7 @@ fn wanted(arguments: &[OsString]) -> Option<Wanted> {
     }
 }
 
-/// Writes the nine tables in order and gives all their counts.
+/// Writes the ten tables in order and gives all their counts.
 fn write_all(numbering: &Numbering, out: &mut dyn Write) -> io::Result<counts::Counts> {
     let pairs = Pairs::tried(numbering);
     let mut counts = pairs.write(out)?;
@@ -102,6 +111,7 @@ fn write_all(numbering: &Numbering, out: &mut dyn Write) -> io::Result<counts::C
     counts.extend(long_reads::write(out)?);
     counts.extend(tree_tags::write(out)?);
     counts.extend(lines::write(out)?);
+    counts.extend(proposals::write(numbering, out)?);
     Ok(counts)
 }
 
@@ -138,6 +148,9 @@ fn run(wanted: Wanted, out: &mut dyn Write) -> io::Result<()> {
         }
         Wanted::Lines => {
             lines::write(out)?;
+        }
+        Wanted::Evidence => {
+            proposals::write(&numbering, out)?;
         }
         Wanted::Counts => counts::write(&write_all(&numbering, &mut io::sink())?, out)?,
     }

@@ -92,7 +92,7 @@ impl<'a> Pairs<'a> {
             return;
         }
         let mut after = tree.clone();
-        delete_at(&mut after, alike.points);
+        delete_at(&mut after, alike.points.rising());
         self.compare(tree, before, &after, &updates);
     }
 
@@ -103,7 +103,11 @@ impl<'a> Pairs<'a> {
             .map(|&pattern| Update::Insert { pattern, inserted })
             .collect();
         let mut after = tree.clone();
-        insert_at(&mut after, alike.points, &self.numbering.inserted[inserted]);
+        insert_at(
+            &mut after,
+            alike.points.rising(),
+            &self.numbering.inserted[inserted],
+        );
         self.compare(tree, before, &after, &updates);
     }
 

@@ -3,15 +3,15 @@
 /// The label that agrees with every label.
 pub const WILDCARD: u16 = 0;
 
-/// How a step lies to the step before it.
+/// How a step lies to the step before it, each by its number in a table.
 #[derive(Clone, Copy, Debug, PartialEq, Eq)]
 pub enum Axis {
     /// The first step: it has no step before it and lies on the root.
-    Root,
+    Root = 0,
     /// Exactly one level down.
-    Child,
+    Child = 1,
     /// One level down or more.
-    Descendant,
+    Descendant = 2,
 }
 
 /// One step of a pattern.
@@ -38,5 +38,11 @@ impl Pattern {
     /// The number of steps.
     pub fn size(&self) -> usize {
         self.steps.len()
+    }
+
+    /// The words of its table, an axis and a label for each step.
+    pub fn words(&self) -> Vec<u16> {
+        let pair = |step: &Step| [step.axis as u16, step.label];
+        self.steps.iter().flat_map(pair).collect()
     }
 }

@@ -2,6 +2,7 @@
 //! the limit.
 
 use crate::buffers::fitting;
+use crate::checks;
 use crate::letters::Name;
 use crate::refusal::{number, Refusal, LIST, READ, TEXT};
 use crate::right_lists::RightLists;
@@ -48,7 +49,7 @@ impl Writer {
 
     /// The text that means a pattern, if there is room for its bytes.
     pub fn write(&self, words: &[u16], room: usize) -> Result<Vec<u8>, Refusal> {
-        check_pattern(words)?;
+        checks::pattern(words, READ)?;
         let mut labels = words.chunks(2).map(|step| usize::from(step[1]));
         if let Some(step) = labels.position(|label| label > self.names) {
             return Err(refused(number::NO_NAME, READ, step));
@@ -80,21 +81,6 @@ fn label_of(names: &[Name], word: &[u8]) -> Option<u16> {
     }
     let place = names.iter().position(|name| name == word)?;
     Some(place as u16 + 1)
-}
-
-/// The refusals of a pattern that is not too long.
-fn check_pattern(words: &[u16]) -> Result<(), Refusal> {
-    if words.is_empty() || words.len() % 2 == 1 {
-        return Err(refused(number::NO_WORDS, READ, 0));
-    }
-    let right = |(step, words): (usize, &[u16])| match step {
-        0 => words[0] == 0,
-        _ => words[0] == 1 || words[0] == 2,
-    };
-    match words.chunks(2).enumerate().position(|step| !right(step)) {
-        Some(step) => Err(refused(number::WRONG_AXIS, READ, step)),
-        None => Ok(()),
-    }
 }
 
 /// A refusal.

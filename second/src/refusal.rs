@@ -8,6 +8,9 @@ pub const READ: usize = 1;
 /// The table at fault when an update's pattern is.
 pub const UPDATE: usize = 2;
 
+/// The table at fault when an inserted tree is.
+pub const INSERTED: usize = 3;
+
 /// The table at fault when the output or the room is.
 pub const ROOM: usize = 4;
 

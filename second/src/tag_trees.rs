@@ -24,6 +24,21 @@ pub enum Shape {
     Far,
 }
 
+impl Shape {
+    /// The parent of node v, by one draw.
+    pub fn parent(self, v: usize, draws: &mut Draws) -> usize {
+        let back = draws.below(if self == Shape::Far { v.max(1) } else { 3 });
+        match self {
+            _ if v == ROOT => ROOT,
+            Shape::Longest | Shape::Chain => v - 1,
+            Shape::Star => ROOT,
+            Shape::Halves => (v - 1) / 2,
+            Shape::Near => (v - 1).saturating_sub(back),
+            Shape::Far => back,
+        }
+    }
+}
+
 /// The shapes by their numbers.
 pub const SHAPES: [Shape; 6] = [
     Shape::Longest,
@@ -78,15 +93,7 @@ pub fn large(shape: usize, nodes: usize) -> Vec<u16> {
 
 /// Node v, by three draws.
 fn row(shape: Shape, v: usize, draws: &mut Draws) -> Row {
-    let back = draws.below(if shape == Shape::Far { v.max(1) } else { 3 });
-    let parent = match shape {
-        _ if v == ROOT => ROOT,
-        Shape::Longest | Shape::Chain => v - 1,
-        Shape::Star => ROOT,
-        Shape::Halves => (v - 1) / 2,
-        Shape::Near => (v - 1).saturating_sub(back),
-        Shape::Far => back,
-    };
+    let parent = shape.parent(v, draws);
     let most = [9, 99, 999, 9_999, 65_535][draws.below(5)];
     let drawn = 1 + draws.below(most) as u16;
     let label = match shape {

@@ -1,54 +1,15 @@
 //! Tree tables written as text: the checks, then the tags, then the room.
 
 use crate::buffers::fitting;
+use crate::checks;
 use crate::limits::TAGGED_NODES;
-use crate::refusal::{number, Refusal, DOCUMENT};
+use crate::refusal::{Refusal, DOCUMENT};
 use crate::tags::text_of;
-use crate::tree::{rows_of, Row, ROOT};
 
 /// The bytes of a tree's tags, if there is room for them.
 pub fn write(words: &[u16], room: usize) -> Result<Vec<u8>, Refusal> {
-    let text = text_of(&checked(words)?);
-    fitting(text.into_bytes(), room)
-}
-
-/// The rows of a tree table, or its first refusal.
-fn checked(words: &[u16]) -> Result<Vec<Row>, Refusal> {
-    if words.is_empty() || words.len() % 2 == 1 {
-        return Err(refused(number::NO_WORDS, 0));
-    }
-    if words.len() / 2 > TAGGED_NODES {
-        return Err(refused(number::PAST_LIMIT, 0));
-    }
-    let table = rows_of(words);
-    for (node, row) in table.iter().enumerate() {
-        check_node(node, row).map_err(|number| refused(number, node))?;
-    }
-    Ok(table)
-}
-
-/// The parent is 0 at the root and a lower number elsewhere, and then the label is not 0.
-fn check_node(node: usize, row: &Row) -> Result<(), usize> {
-    let above = match node {
-        ROOT => row.parent == ROOT,
-        _ => row.parent < node,
-    };
-    if !above {
-        return Err(number::WRONG_PARENT);
-    }
-    if row.label == 0 {
-        return Err(number::LABEL_ZERO);
-    }
-    Ok(())
-}
-
-/// The refusal of a tree at a place.
-fn refused(number: usize, place: usize) -> Refusal {
-    Refusal {
-        number,
-        table: DOCUMENT,
-        place,
-    }
+    let rows = checks::tree(words, TAGGED_NODES, DOCUMENT)?;
+    fitting(text_of(&rows).into_bytes(), room)
 }
 
 #[cfg(test)]
@@ -58,7 +19,11 @@ mod tests {
 
     /// A tree's refusal by its number and place.
     fn no(number: usize, place: usize) -> Result<Vec<u8>, Refusal> {
-        Err(refused(number, place))
+        Err(Refusal {
+            number,
+            table: DOCUMENT,
+            place,
+        })
     }
 
     #[test]

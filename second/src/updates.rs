@@ -1,19 +1,17 @@
 //! The two updates on linked nodes, at update points chosen beforehand.
 
-use crate::node_set::NodeSet;
 use crate::tree::{Row, Tree, ROOT};
 
 /// Removes each point with all that lies below it; gives the number of nodes
 /// that were present before and are not now.
-pub fn delete_at(tree: &mut Tree, points: NodeSet) -> usize {
-    points.rising().map(|point| tree.remove(point)).sum()
+pub fn delete_at(tree: &mut Tree, points: impl Iterator<Item = usize>) -> usize {
+    points.map(|point| tree.remove(point)).sum()
 }
 
-/// Hangs a fresh copy of the inserted tree under each point, in rising number
-/// of the points; gives the number of copies.
-pub fn insert_at(tree: &mut Tree, points: NodeSet, inserted: &[Row]) -> usize {
+/// Hangs a fresh copy of the inserted tree under each point, in the order of the
+/// points, which is that of rising number; gives the number of copies.
+pub fn insert_at(tree: &mut Tree, points: impl Iterator<Item = usize>, inserted: &[Row]) -> usize {
     points
-        .rising()
         .map(|point| copy_under(tree, point, inserted))
         .count()
 }
@@ -42,7 +40,7 @@ mod tests {
     fn copies_are_not_selected_again() {
         let mut tree = Tree::linked(&chain("ab"));
         let points = selected(&tree, &pattern("a//b"));
-        assert_eq!(insert_at(&mut tree, points, &chain("b")), 1);
+        assert_eq!(insert_at(&mut tree, points.rising(), &chain("b")), 1);
         assert_eq!(tree.nodes().len(), 3);
         assert_eq!(tree.node(2).parent, Some(1));
     }
@@ -52,7 +50,7 @@ mod tests {
         let mut tree = Tree::linked(&chain("abbc"));
         let points = selected(&tree, &pattern("a//b"));
         assert_eq!(points.size(), 2);
-        assert_eq!(delete_at(&mut tree, points), 3);
-        assert_eq!(delete_at(&mut tree, points), 0);
+        assert_eq!(delete_at(&mut tree, points.rising()), 3);
+        assert_eq!(delete_at(&mut tree, points.rising()), 0);
     }
 }

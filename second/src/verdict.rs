@@ -35,8 +35,8 @@ impl Operation<'_> {
     fn run(&self, tree: &Tree, points: NodeSet) -> Tree {
         let mut after = tree.clone();
         match self {
-            Operation::Delete(_) => delete_at(&mut after, points),
-            Operation::Insert(_, inserted) => insert_at(&mut after, points, inserted),
+            Operation::Delete(_) => delete_at(&mut after, points.rising()),
+            Operation::Insert(_, inserted) => insert_at(&mut after, points.rising(), inserted),
         };
         after
     }

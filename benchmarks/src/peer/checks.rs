@@ -35,7 +35,7 @@ fn nodes(tree: &[u16], count: usize) -> Result<(), usize> {
     Ok(())
 }
 
-/// An inserted tree, or one that is written as tags: 1, 2, then node by node 4, 5.
+/// An inserted tree, a proposed one, or one that is written as tags: 1, 2, then node by node 4, 5.
 pub fn tree(tree: &[u16]) -> Result<(), usize> {
     if tree.is_empty() || tree.len() % 2 == 1 {
         return Err(1);

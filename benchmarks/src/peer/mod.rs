@@ -2,6 +2,7 @@
 
 pub mod checks;
 pub mod entering;
+pub mod evidence;
 pub mod meeting;
 pub mod plan;
 pub mod read;
@@ -10,7 +11,7 @@ pub mod verdict;
 
 /// Steps of a pattern at most.
 pub const STEPS: usize = 64;
-/// Nodes of an inserted tree at most, and of one that is written as tags.
+/// Nodes of an inserted tree at most, of a proposed one, and of one that is written as tags.
 pub const TREE_NODES: usize = 256;
 /// Nodes in use of a document at most.
 pub const USED: usize = 4096;

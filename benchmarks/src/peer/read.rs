@@ -6,14 +6,14 @@ use super::{checks, first, label, stays, Counted, USED};
 const BYTES: usize = 256;
 
 /// The steps that stay, and in a slot for each value of a label's low and high byte the steps that agree with it.
-struct Masks {
+pub struct Masks {
     staying: u64,
     low: [u64; BYTES],
     high: [u64; BYTES],
 }
 
 impl Masks {
-    fn of(pattern: &[u16]) -> Masks {
+    pub fn of(pattern: &[u16]) -> Masks {
         let (mut staying, mut any) = (0, 0);
         for i in 0..pattern.len() / 2 {
             staying |= u64::from(stays(pattern, i)) << i;
@@ -34,6 +34,20 @@ impl Masks {
     fn agreeing(&self, label: u16) -> u64 {
         let label = usize::from(label);
         self.low[label % BYTES] & self.high[label / BYTES]
+    }
+
+    /// The set at a node with this label, below one with that set.
+    pub fn below(&self, above: u64, label: u16) -> u64 {
+        (self.agreeing(label) & (above << 1)) | (self.staying & above)
+    }
+
+    /// The set at node v, from the sets of the nodes before it.
+    pub fn at(&self, tree: &[u16], sets: &[u64], v: usize) -> u64 {
+        if v == 0 {
+            self.agreeing(label(tree, 0)) & 1
+        } else {
+            self.below(sets[first(tree, v)], label(tree, v))
+        }
     }
 }
 

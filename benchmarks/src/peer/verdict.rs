@@ -41,8 +41,8 @@ pub fn insert_way(read: &[u16], update: &[u16], tree: &[u16], out: &mut [u16]) -
     climb(read, tree, &mut rows);
     let j = update.len() / 2 - 1;
     let mut best = (0, 0);
-    for i in 0..read.len() / 2 - 1 {
-        let way = table[i][j];
+    for (i, row) in table.iter().enumerate().take(read.len() / 2 - 1) {
+        let way = row[j];
         if way != 0 && (best.0 == 0 || way < best.0) && enters(read, tree, &rows, i) {
             best = (way, i);
         }

@@ -1,6 +1,6 @@
 -- A walk from the front gives the batch's frames, one a call: of an accepted batch all, then none left; else those before the bad one, then its refusal.
 use Prim.Native.Nat.{ℕ, zero, suc, _+_, _-_, _<_, _≤_}
-use mathlib.Core.Path.{_≡_, refl, sym, _∙_}
+use mathlib.Core.Path.{_≡_, refl, sym, subst, _∙_}
 use mathlib.Core.Bool.{Bool, true, false, cond}
 use mathlib.Core.List.{List, [], _∷_}
 use native.Mathlib.Decide.{decLt, decLe}
@@ -18,7 +18,7 @@ use Rattle.tables.specs.declared.refusal.Checked.the-variants.{Fine, Refused}
 use Rattle.tables.proofs.Accepted.{never, then-first}
 use Rattle.order.specs.Frames.{At, here, there}
 use Rattle.batch_frame.specs.Frames.{frameCheck, endOf, frameOf, answered, frameAt}
-use Rattle.batch_frame.specs.Faults.{named}
+use Rattle.batch_frame.specs.Faults.{named, FaultAt}
 use Rattle.batch_frame.proofs.Faulty.{frame-fault}
 use Rattle.batch_check.specs.Batches.{meaning, framesFrom, batchOf, checkFrom, batchCheck}
 use Rattle.batch_check.proofs.Frames.{frames-on, frames-off, check-on}
@@ -200,7 +200,7 @@ module _ (b : List ℕ) where
       frame = k;
       before = earlier;
       refused = stays (Refused why) k (rw (r .number, r .place) (step-bad words k at h refused));
-      fault = rw (r .place) (frame-fault b k at h refused);
+      fault = subst (λ (x : ℕ). FaultAt b k x why) (sym (r .place)) (frame-fault b k at h refused);
     }
 
     stop : {k at : ℕ} (most : ℕ) → MadeAt b k at → ((j : ℕ) → j < k → GivesFrame b j) → checkFrom b k at most ≡ Refused why → StopsAt b why

@@ -9,6 +9,8 @@ use Rattle.outcomes.specs.declared.verdicts.Verdict.{Verdict}
 use Rattle.outcomes.specs.declared.verdicts.Verdict.the-variants as verdict
 use Rattle.outcomes.specs.declared.verdicts.Deeply.{Deeply}
 use Rattle.outcomes.specs.declared.verdicts.Deeply.the-variants as deeply
+use Rattle.outcomes.specs.declared.verdicts.Evidence.{Evidence}
+use Rattle.outcomes.specs.declared.verdicts.Evidence.the-variants as evidence
 use Rattle.outcomes.specs.declared.frames.Stepped.{Stepped}
 use Rattle.outcomes.specs.declared.frames.Stepped.the-variants as stepped
 use Rattle.outcomes.specs.declared.plans.Planned.{Planned}
@@ -48,6 +50,12 @@ abbrev pub ofDeeply : Deeply → Answer
 ofDeeply deeply.No = giving 0 0 0 0
 ofDeeply deeply.Yes = giving 1 0 0 0
 ofDeeply (deeply.Refused r) = refusing r
+
+-- a proposed tree: the first node that is lost or new, 0 for no difference
+abbrev pub ofEvidence : Evidence → Answer
+ofEvidence evidence.Same = giving 0 0 0 0
+ofEvidence (evidence.Shown v) = giving v 0 0 0
+ofEvidence (evidence.Refused r) = refusing r
 
 -- the walker: the frame's kind, where it ends, how many steps and nodes it has; kind 0 where none is left
 abbrev pub ofStepped : Stepped → Answer

@@ -10,10 +10,11 @@ use outcomes::texts::Spelled;
 use outcomes::updates::Deleted;
 use outcomes::updates::Inserted;
 use outcomes::verdicts::Deeply;
+use outcomes::verdicts::Evidence;
 use outcomes::verdicts::Verdict;
 use tables::refusal::Checked;
 ghost use mathlib.Core.Path.{_≡_};
-ghost use Rattle.c_numbers.specs.Numbers.{ofChecked, ofDeleted, ofInserted, ofVerdict, ofDeeply, ofStepped, ofPlanned, ofParsed, ofSpelled, ofPrinted};
+ghost use Rattle.c_numbers.specs.Numbers.{ofChecked, ofDeleted, ofInserted, ofVerdict, ofDeeply, ofEvidence, ofStepped, ofPlanned, ofParsed, ofSpelled, ofPrinted};
 
 // A check.
 pub fn checked(c: Checked) -> Answer
@@ -115,5 +116,16 @@ pub fn printed(p: Printed) -> Answer
     match p {
         Printed::Bytes(n) => giving(n, 0, 0, 0),
         Printed::Refused(r) => refusing(r),
+    }
+}
+
+// A proposed tree: the first node that is lost or new, 0 for no difference.
+pub fn evidenced(e: Evidence) -> Answer
+    ensures { λ a. ⌜ a ≡ ofEvidence e ⌝ }
+{
+    match e {
+        Evidence::Same => giving(0, 0, 0, 0),
+        Evidence::Shown(v) => giving(v, 0, 0, 0),
+        Evidence::Refused(r) => refusing(r),
     }
 }

@@ -49,7 +49,7 @@ module _ (r p : List ℕ) (e : patternsCheck r p ≡ Fine) where
   unfolding patternsCheck
   read-fine = then-first (patternCheck r stepLimit 1) (patternCheck p stepLimit 2) e
 
-  update-fine : patternCheck p stepLimit 2 ≡ Fine
+  pub update-fine : patternCheck p stepLimit 2 ≡ Fine
   unfolding patternsCheck
   update-fine = then-second (patternCheck r stepLimit 1) (patternCheck p stepLimit 2) e
 

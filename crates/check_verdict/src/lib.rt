@@ -34,7 +34,7 @@ pub fn patterns_check(r: &[u16], p: &[u16]) -> Checked
 }
 
 // A delete has more than one step: refusal 6.
-fn two_steps(p: &[u16]) -> Checked
+pub fn two_steps(p: &[u16]) -> Checked
     ensures { λ c. ⌜ c ≡ test (ltb 1 (steps (now (p .entry)))) (refuse 6 2 0) ⌝ }
 {
     if p.len() / 2 <= 1 {

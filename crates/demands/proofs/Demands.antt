@@ -34,6 +34,7 @@ use Rattle.outcomes.specs.declared.verdicts.Verdict.{Verdict}
 use Rattle.outcomes.specs.declared.verdicts.Verdict.the-variants as verdict
 use Rattle.outcomes.specs.declared.verdicts.Deeply.{Deeply}
 use Rattle.outcomes.specs.declared.verdicts.Deeply.the-variants as deep
+use Rattle.verdict_evidence.proofs.Promise.{delete-none-gained, insert-none-lost, gained-new}
 use Rattle.marked.proofs.Marked.{small, words-of, marked}
 use Rattle.order.proofs.Own.{own-order}
 use Rattle.order.proofs.Deciding.{conflicting, conflicting-decides}
@@ -68,6 +69,7 @@ use Rattle.demands.proofs.Numbering.{stops}
 use Rattle.demands.proofs.Orders as orders
 use Rattle.demands.proofs.Texts.{lists-place, list-lines, texts, texts-place, text-steps, written-reads, read-writes}
 use Rattle.demands.proofs.Tags.{tags-enough, tags-reached, witness-text}
+use Rattle.demands.proofs.Evidence.{evidence-exactly, first-changed, own-accepted, accepted-conflict}
 use Rattle.demands.proofs.Updates.{deleted-by, all-deleted-by, inserted-by}
 use Rattle.demands.proofs.Agreeing.{readings-agree}
 use Rattle.demands.proofs.Keeping.{keeps-order, order-keeps}
@@ -85,6 +87,7 @@ demand-one =
       inserts = orders.inserts;
       verdicts = orders.verdicts;
       deeps = orders.deeps;
+      evidences = orders.evidences;
       walks = orders.walks;
       plans = orders.plans;
       lines-in = orders.lines-in;
@@ -209,6 +212,13 @@ besides =
       deep-yes = λ r u h. h .some;
       deep-no = λ r u h. h .none;
       deep-at = deep-at;
+      evidence-exactly = evidence-exactly;
+      evidence-first = λ r u t v w s. first-changed s w;
+      delete-gains-none = λ r p t words fine. delete-none-gained r p t fine words;
+      insert-loses-none = λ r p x t tags words fine. insert-none-lost r p x t fine tags words;
+      insert-gains-new = λ r p x t tags words fine. gained-new r p x t fine tags words;
+      evidence-own = own-accepted;
+      evidence-conflict = accepted-conflict;
       deep-at-delete = λ r p fine t sound v.
           let both = delete-patterns r p fine in
           lost-selected r p (patterns-read r p both) (delete-two r p fine) (patterns-update r p both) sound v;

@@ -2,7 +2,9 @@
 pub mod Numbering
 pub mod Orders
 pub mod Texts
+pub mod Witnesses
 pub mod Tags
+pub mod Evidence
 pub mod Updates
 pub mod Agreeing
 pub mod Keeping

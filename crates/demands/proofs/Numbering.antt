@@ -19,6 +19,7 @@ use Rattle.check_read.specs.Readable.{readCheck}
 use Rattle.doc_updates.specs.Updating as updating
 use Rattle.conflict.specs.Conflict.{Update, delete, insert}
 use Rattle.check_verdict.specs.Order.{roomCheck, patternsCheck, deepDeleteCheck, deepInsertCheck, deleteVerdictCheck, insertVerdictCheck, deepCheck, verdictCheck}
+use Rattle.check_evidence.specs.Order.{evidenceCheck, deleteEvidenceCheck, insertEvidenceCheck}
 use Rattle.batch_check.specs.Batches.{checkFrom, batchCheck, planCheck}
 use Rattle.text_line_in.specs.Lines.{characterCheck, lineCheck}
 use Rattle.text_names.specs.Names.{entryCheck, listCheck}
@@ -107,6 +108,11 @@ pub deeps : (r : List ℕ) (u : Update) → OnlyNumbered (deepCheck r u)
 unfolding deepDeleteCheck deepInsertCheck
 deeps r (delete p) = search (chained, both-patterns, tested)
 deeps r (insert p x) = search (chained, both-patterns, trees)
+
+pub evidences : (r : List ℕ) (u : Update) (t : List ℕ) → OnlyNumbered (evidenceCheck r u t)
+unfolding deleteEvidenceCheck insertEvidenceCheck
+evidences r (delete p) t = search (chained, both-patterns, trees, tested)
+evidences r (insert p x) t = search (chained, both-patterns, trees)
 
 rooms : (r p : List ℕ) (words : ℕ) → OnlyNumbered (roomCheck r p words)
 unfolding roomCheck

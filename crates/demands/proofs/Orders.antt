@@ -14,7 +14,7 @@ use Rattle.tables.specs.declared.refusal.Checked.the-variants.{Fine, Refused}
 use Rattle.tables.proofs.Accepted.{never}
 use Rattle.c_answer.specs.declared.answer.Answer.{Answer}
 use Rattle.c_answer.specs.Answers.{refusing, Told}
-use Rattle.c_numbers.specs.Numbers.{ofChecked, ofDeleted, ofInserted, ofVerdict, ofDeeply, ofStepped, ofPlanned, ofParsed, ofSpelled, ofPrinted}
+use Rattle.c_numbers.specs.Numbers.{ofChecked, ofDeleted, ofInserted, ofVerdict, ofDeeply, ofEvidence, ofStepped, ofPlanned, ofParsed, ofSpelled, ofPrinted}
 use Rattle.check_plain.specs.Bare.{plainCheck}
 use Rattle.doc_plain.specs.Plain.{PlainRead}
 use Rattle.check_read.specs.Readable.{readCheck}
@@ -35,6 +35,10 @@ use Rattle.outcomes.specs.declared.verdicts.Verdict.{Verdict}
 use Rattle.outcomes.specs.declared.verdicts.Verdict.the-variants as verdict
 use Rattle.outcomes.specs.declared.verdicts.Deeply.{Deeply}
 use Rattle.outcomes.specs.declared.verdicts.Deeply.the-variants as deep
+use Rattle.check_evidence.specs.Order.{evidenceCheck}
+use Rattle.verdict_evidence.specs.Promise.{Checks}
+use Rattle.outcomes.specs.declared.verdicts.Evidence.{Evidence}
+use Rattle.outcomes.specs.declared.verdicts.Evidence.the-variants as evidence
 use Rattle.batch_frame.specs.Frames.{frameCheck, frameOf, answered, frameAt}
 use Rattle.batch_walk.specs.Walking.{answerOf, walkCheck, stepAt}
 use Rattle.outcomes.specs.declared.frames.Stepped.the-variants as walker
@@ -130,6 +134,14 @@ deeps r u a = told one
     one deep.No h = was-fine (h .fine) refl
     one deep.Yes h = was-fine (h .fine) refl
     one (deep.Refused why) h = was-refused (numbering.deeps r u) h tt
+
+pub evidences : (r : List ℕ) (u : Update) (t : List ℕ) (a : Answer) → Told ofEvidence (Checks r u t) a → ByOrder (evidenceCheck r u t) a Nothing
+evidences r u t a = told one
+  where
+    one : (x : Evidence) → Checks r u t x → ByOrder (evidenceCheck r u t) (ofEvidence x) Nothing
+    one evidence.Same h = was-fine (h .fine) refl
+    one (evidence.Shown v) h = was-fine (h .fine) refl
+    one (evidence.Refused why) h = was-refused (numbering.evidences r u t) h tt
 
 -- batches
 pub walks : (b : List ℕ) (n at : ℕ) → ByOrder (walkCheck b n at) (ofStepped (stepAt b n at)) Nothing

@@ -3,7 +3,7 @@ use Prim.Native.Nat.{ℕ, _+_, _*_, _<_, _≤_}
 use mathlib.Core.Path.{_≡_, _∙_, ap}
 use mathlib.Core.List.{List}
 use native.Mathlib.Omega.{arith}
-use lib.ListN.{length, take, length-take}
+use lib.ListN.{length, take}
 use borrow.Author.Tests.{le-leb}
 use Rattle.tables.specs.Limits.{treeLimit}
 use Rattle.tables.specs.Words.{nodes, Bits16}
@@ -12,11 +12,8 @@ use Rattle.tables.specs.Checks.{treeCheck, outputCheck}
 use Rattle.tables.specs.declared.refusal.Refusal.{Refusal}
 use Rattle.tables.specs.declared.refusal.Checked.the-variants.{Fine}
 use Rattle.tables.proofs.Accepted.{never}
-use Rattle.tables.proofs.Soundness.{accepted-tree, tree-fine}
-use Rattle.conflict.specs.Conflict.{Update, delete, insert, pattern}
-use Rattle.check_verdict.specs.Order.{verdictCheck}
-use Rattle.check_verdict.specs.Admitted.{Bounded}
-use Rattle.check_verdict.proofs.Accepting.{delete-bounded, delete-deep, insert-bounded, insert-deep}
+use Rattle.tables.proofs.Soundness.{accepted-tree}
+use Rattle.conflict.specs.Conflict.{Update}
 use Rattle.verdict.specs.Promise.{NodeVerdict}
 use Rattle.outcomes.specs.declared.verdicts.Verdict.the-variants as verdict
 use Rattle.outcomes.specs.declared.texts.Printed.{Printed}
@@ -24,6 +21,7 @@ use Rattle.outcomes.specs.declared.texts.Printed.the-variants as printed
 use Rattle.text_xml.specs.Tags.{treeBytes}
 use Rattle.text_xml.proofs.Bytes.{tree-bytes, bytes-most, chainOf, chain-sound, bytes-reached}
 use Rattle.text_xml_out.specs.Writing.{writeTreeCheck, WriteTree}
+use Rattle.demands.proofs.Witnesses.{witness-fine}
 
 module _ (t : List ℕ) (sound : Sound (bare t)) (fine : treeCheck t treeLimit 5 ≡ Fine) (room : ℕ) (enough : 17 * nodes t ≤ room + 8) where
   written-fine : writeTreeCheck t room ≡ Fine
@@ -36,10 +34,6 @@ tags-enough t before after why words fine enough h = never (h .0) (written-fine 
 pub tags-reached : (n : ℕ) → 0 < n → (t : List ℕ) × Sound (bare t) × (nodes t ≡ n) × (treeBytes t + 8 ≡ 17 * n)
 tags-reached n some = let both = bytes-reached n some in (chainOf n, chain-sound n some, both .0, both .1)
 
-bounded : (r : List ℕ) (u : Update) (words : ℕ) → verdictCheck r u words ≡ Fine → Bounded r (pattern u)
-bounded r (delete p) words e = delete-bounded r p (delete-deep r p words e)
-bounded r (insert p x) words e = insert-bounded r p x (insert-deep r p words x e)
-
 pub witness-text : (r : List ℕ) (u : Update) (before after : List ℕ) (n : ℕ) → NodeVerdict r u before after (verdict.Conflict n) →
     (room text : List ℕ) (answer : Printed) → WriteTree (take (2 * n) after) room text answer → 17 * n ≤ length room + 8 → answer ≡ printed.Bytes (treeBytes (take (2 * n) after))
 witness-text r u before after n h room text answer promised enough = go answer promised
@@ -50,11 +44,8 @@ witness-text r u before after n h room text answer promised enough = go answer p
     sound : Sound (bare tree)
     sound = h .witness .sound
 
-    few : nodes tree ≤ treeLimit
-    few = let steps = bounded r u (length before) (h .fine) in omega (arith, h .count, h .bound, steps .reads, steps .updates)
-
     fine : treeCheck tree treeLimit 5 ≡ Fine
-    fine = tree-fine tree treeLimit 5 sound (omega (arith, h .count, length-take (2 * n) after)) few
+    fine = witness-fine r u before after n h
 
     go : (x : Printed) → WriteTree tree room text x → x ≡ printed.Bytes (treeBytes tree)
     go (printed.Refused why) e = never (e .0) (written-fine tree sound fine (length room) (omega (arith, h .count, enough)))

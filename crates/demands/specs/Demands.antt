@@ -4,10 +4,10 @@
 --   DemandTwo     the verdict and its witness; reading, deleting and inserting, by embeddings
 --   DemandThree   the plan; a batch run call by call, in any order that keeps the plan
 --   EitherOrder   deletes one after another, in any order
---   Besides       what else the documents say of the calls: deep verdicts, plans, the two readings, the walker, patterns as text,
+--   Besides       what else the documents say of the calls: deep verdicts, proposed trees, plans, the two readings, the walker, patterns as text,
 --                 trees as tags, what stays, the program's two numbers, P1 to P15
 --
--- A call is named by its promise: Read, Delete, Insert, NodeVerdict, DeepVerdict, Plan and so on, each over what is lent to it before and after.
+-- A call is named by its promise: Read, Delete, Insert, NodeVerdict, DeepVerdict, Checks, Plan and so on, each over what is lent to it before and after.
 -- Told says that an exported function returns the numbers of an answer that meets such a promise. Demands/Names.antt says where each name of this page
 -- is defined, and which function makes each promise.
 mod Names
@@ -47,6 +47,7 @@ pub record DemandOne : Type 0 where
   pub verdicts : (r : List ℕ) (u : Update) (before after : List ℕ) (a : Answer) → Told ofVerdict (NodeVerdict r u before after) a →
       ByOrder (verdictCheck r u (length before)) a (after ≡ before)
   pub deeps : (r : List ℕ) (u : Update) (a : Answer) → Told ofDeeply (DeepVerdict r u) a → ByOrder (deepCheck r u) a Nothing
+  pub evidences : (r : List ℕ) (u : Update) (t : List ℕ) (a : Answer) → Told ofEvidence (Checks r u t) a → ByOrder (evidenceCheck r u t) a Nothing
   pub walks : (b : List ℕ) (n at : ℕ) → ByOrder (walkCheck b n at) (ofStepped (stepAt b n at)) Nothing
   pub plans : (b before after : List ℕ) (a : Answer) → Told ofPlanned (Plan b before after) a → ByOrder (planCheck b (length before)) a (after ≡ before)
   pub lines-in : (s : List ℕ) (line : ℕ) (before after : List ℕ) (a : Answer) → Told ofParsed (ReadAs s line before after) a →
@@ -184,6 +185,18 @@ pub record Besides : Type 0 where
   pub deep-at : (r : List ℕ) (u : Update) (answer : Deeply) → DeepVerdict r u answer → deepCheck r u ≡ Fine →
       (t : List ℕ) → Sound (bare t) → (v : ℕ) → Selects r (bare t) v → Selects (pattern u) (bare t) v → answer ≡ deep.Yes
   pub deep-at-delete : (r p : List ℕ) → deepCheck r (delete p) ≡ Fine → (t : List ℕ) → Sound (bare t) → (v : ℕ) → Selects r (bare t) v → Selects p (bare t) v → Witness r (delete p) t
+  -- a proposed tree that is not refused: the answer has a node other than 0 exactly if the read's set of nodes on the tree differs before and after the update, the difference of
+  -- which a conflict speaks; no smaller node is lost or gained; a delete gains none; an insert loses none, and what it gains is new
+  pub evidence-exactly : (r : List ℕ) (u : Update) (t : List ℕ) (answer : Evidence) → Bits16 t → Checks r u t answer → evidenceCheck r u t ≡ Fine → (0 < shownNode answer) ↔ Differs r u (bare t)
+  pub evidence-first : (r : List ℕ) (u : Update) (t : List ℕ) (v w : ℕ) → Checks r u t (evidence.Shown v) → w < v → (Lost r u (bare t) w → ⊥) × (Gained r u (bare t) w → ⊥)
+  pub delete-gains-none : (r p t : List ℕ) → Bits16 t → evidenceCheck r (delete p) t ≡ Fine → (v : ℕ) → Gained r (delete p) (bare t) v → ⊥
+  pub insert-loses-none : (r p x t : List ℕ) → Bits16 x → Bits16 t → evidenceCheck r (insert p x) t ≡ Fine → (v : ℕ) → Lost r (insert p x) (bare t) v → ⊥
+  pub insert-gains-new : (r p x t : List ℕ) → Bits16 x → Bits16 t → evidenceCheck r (insert p x) t ≡ Fine → (v : ℕ) → Gained r (insert p x) (bare t) v → nodes t ≤ v
+  -- every witness that the verdict writes is accepted; where any tree is accepted, the verdict says conflict, with a witness of no more nodes
+  pub evidence-own : (r : List ℕ) (u : Update) (before after : List ℕ) (n : ℕ) (answer : Evidence) → NodeVerdict r u before after (verdict.Conflict n) →
+      Checks r u (take (2 * n) after) answer → (v : ℕ) × (answer ≡ evidence.Shown v)
+  pub evidence-conflict : (r : List ℕ) (u : Update) (t : List ℕ) (v : ℕ) (before after : List ℕ) (answer : Verdict) → Checks r u t (evidence.Shown v) →
+      NodeVerdict r u before after answer → verdictCheck r u (length before) ≡ Fine → (n : ℕ) × (answer ≡ verdict.Conflict n) × (n ≤ nodes t)
   -- an update's plan word is its number among the updates, from 1; batches that agree on a read and the updates before it give it the same slot
   pub numbers : (b before plan : List ℕ) (n k : ℕ) (u : Update) → Plan b before plan (planned.Frames n) → At (batchOf b) k (update u) → getD plan k 0 ≡ number (batchOf b) k
   pub same-slot : (b c : List ℕ) → Bits16 b → Bits16 c → batchCheck b ≡ Fine → batchCheck c ≡ Fine → (k l : ℕ) (r : List ℕ) → At (batchOf b) k (read r) → At (batchOf c) l (read r) →

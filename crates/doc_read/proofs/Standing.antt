@@ -23,7 +23,7 @@ there false x s r m n e = rw (and-false s)
 
 module _ (p : List ℕ) where
   -- one label more on a way
-  run-on : (l : ℕ) (w : List ℕ) (first : Bool) → first ≡ empty w → (i : ℕ) → nextSet (agrees p l) (stays p false) first (standsOn p w) i ≡ standsOn p (l ∷ w) i
+  pub run-on : (l : ℕ) (w : List ℕ) (first : Bool) → first ≡ empty w → (i : ℕ) → nextSet (agrees p l) (stays p false) first (standsOn p w) i ≡ standsOn p (l ∷ w) i
   unfolding nextSet moved agrees standsOn run runs
   run-on l w first e zero = there (ltb 0 (steps p)) (takes p 0 l) (stays p false 0) (runs (takes p) (stays p false) 0 w) first (empty w) (λ _. e)
   run-on l w first e (suc i) =

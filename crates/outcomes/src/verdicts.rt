@@ -14,3 +14,10 @@ pub enum Deeply {
     No,
     Yes,
 }
+
+// Refused; no difference; or a difference, with the first node that is lost or new.
+pub enum Evidence {
+    Refused(Refusal),
+    Same,
+    Shown(usize),
+}

@@ -31,7 +31,7 @@ fn held(n: usize, from: usize) -> usize
 }
 
 // The word with step i in it besides, where `yes` says so.
-fn put(s: u64, i: usize, yes: bool) -> u64
+pub fn put(s: u64, i: usize, yes: bool) -> u64
     ensures { λ r. ⌜ Word (λ j. bit s j || (yes && eqb j i)) 0 r ⌝ }
 {
     if yes {

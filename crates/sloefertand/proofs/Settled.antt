@@ -17,6 +17,8 @@ use Rattle.verdict.specs.Promise.{NodeVerdict, witnessNodes}
 use Rattle.verdict.proofs.Promise.{verdict-one}
 use Rattle.verdict_deep.specs.Promise.{DeepVerdict}
 use Rattle.verdict_deep.proofs.Promise.{deep-one}
+use Rattle.verdict_evidence.specs.Promise.{Checks}
+use Rattle.verdict_evidence.proofs.Promise.{evidence-one}
 use Rattle.batch_plan.specs.Batch.{Plan}
 use Rattle.batch_plan.proofs.Laws.{plan-one}
 use Rattle.text_line_in.specs.Lines.{ReadAs}
@@ -32,7 +34,7 @@ use Rattle.text_xml_out.proofs.Promise.{tree-one}
 use Rattle.text_printer.specs.Printer.{PrintedAs}
 use Rattle.text_printer.proofs.Settled.{printed-one}
 use Rattle.c_answer.specs.Answers.{Told}
-use Rattle.c_numbers.specs.Numbers.{ofChecked, ofDeleted, ofInserted, ofVerdict, ofDeeply, ofPlanned, ofParsed, ofSpelled, ofPrinted}
+use Rattle.c_numbers.specs.Numbers.{ofChecked, ofDeleted, ofInserted, ofVerdict, ofDeeply, ofEvidence, ofPlanned, ofParsed, ofSpelled, ofPrinted}
 use Rattle.c_answer.specs.declared.answer.Answer.{Answer}
 
 -- where the promises settle the answer and something more by its numbers, so do the numbers
@@ -98,3 +100,7 @@ insert-told p x d rows₀ marks₀ rows₁ marks₁ rows₂ marks₂ =
 -- a deep verdict has no buffer
 pub deep-told : {a b : Answer} (r : List ℕ) (u : Update) → Told ofDeeply (DeepVerdict r u) a → Told ofDeeply (DeepVerdict r u) b → a ≡ b
 deep-told {a} {b} r u f g = told-one (λ _. ℕ) (λ x y h k. (deep-one r u x y h k, 0)) f g .0
+
+-- neither has the check of a proposed tree
+pub evidence-told : {a b : Answer} (r : List ℕ) (u : Update) (t : List ℕ) → Told ofEvidence (Checks r u t) a → Told ofEvidence (Checks r u t) b → a ≡ b
+evidence-told r u t f g = told-one (λ _. ℕ) (λ x y h k. (evidence-one r u t x y h k, 0)) f g .0

@@ -9,7 +9,7 @@ stepLimit = 64
 abbrev pub place : ℕ → ℕ → ℕ
 place i j = stepLimit * i + j
 
--- nodes of an inserted tree, and of a tree that is written as tags
+-- nodes of an inserted tree, of a tree that is written as tags, and of a proposed tree
 abbrev pub treeLimit : ℕ
 treeLimit = 256
 

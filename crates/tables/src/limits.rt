@@ -3,7 +3,7 @@
 // Steps of a pattern.
 pub const STEP_LIMIT: usize = 64;
 
-// Nodes of an inserted tree, and of a tree that is written as tags.
+// Nodes of an inserted tree, of a tree that is written as tags, and of a proposed tree.
 pub const TREE_LIMIT: usize = 256;
 
 // Used nodes of a document.

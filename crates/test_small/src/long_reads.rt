@@ -33,9 +33,9 @@ struct Sums {
 }
 
 // Where the drawing of a pattern has come to: the last number, and the node on the way up.
-struct Way {
-    state: usize,
-    node: usize,
+pub(crate) struct Way {
+    pub(crate) state: usize,
+    pub(crate) node: usize,
 }
 
 // The number after another.
@@ -44,7 +44,7 @@ pub(crate) fn moved(s: usize) -> usize {
 }
 
 // One of six labels, which have bytes in common.
-fn name(x: usize) -> usize {
+pub(crate) fn name(x: usize) -> usize {
     let i = x % 6;
     if i == 0 {
         return 1;
@@ -173,7 +173,7 @@ fn step(i: usize, strange: bool, w: Way, rows: &[u16], p: &mut [u16]) -> Way {
 }
 
 // The steps from the last to the first, along a way up; one of them may have a label of its own.
-fn steps(n: usize, strange: usize, way: Way, rows: &[u16], p: &mut [u16]) {
+pub(crate) fn steps(n: usize, strange: usize, way: Way, rows: &[u16], p: &mut [u16]) {
     let mut w = way;
     let mut i = n;
     while 0 < i {

@@ -1,7 +1,10 @@
-// Everything small, and some long reads and large trees, over the proved library, by the functions that other languages link: the nine tables that the second program prints too. `stdout` holds what that program printed.
+// Everything small, and some long reads and large trees, over the proved library, by the functions that other languages link: the ten tables that the second program prints too. `stdout` holds what that program printed.
 mod damage;
+mod damaged_evidence;
 mod digest;
 mod either_order;
+mod evidence;
+mod large_evidence;
 mod line_damage;
 mod long_reads;
 mod numbering;
@@ -30,4 +33,5 @@ fn main() {
     long_reads::table();
     tree_tags::table();
     line_damage::table();
+    evidence::table();
 }

@@ -52,7 +52,7 @@ pub(crate) fn numbered(k: usize, kinds: usize, n: usize, t: &mut [u16]) {
 }
 
 // The parent of node v in a tree of a shape: two chains, a star, two below each, one of the three before, any before.
-fn parent(shape: usize, v: usize, x: usize) -> usize {
+pub(crate) fn parent(shape: usize, v: usize, x: usize) -> usize {
     if v == 0 {
         return 0;
     }

@@ -9,6 +9,8 @@ use sloefertand::batches::sloefertand_step;
 use sloefertand::checking::sloefertand_check_document;
 use sloefertand::checking::sloefertand_check_pattern;
 use sloefertand::checking::sloefertand_check_tree;
+use sloefertand::evidence::sloefertand_delete_evidence;
+use sloefertand::evidence::sloefertand_insert_evidence;
 use sloefertand::operations::sloefertand_delete;
 use sloefertand::operations::sloefertand_insert;
 use sloefertand::operations::sloefertand_plain_reading;
@@ -98,6 +100,17 @@ pub(crate) fn judge(name: &[u8], r: &[u16], p: &[u16], x: &[u16], t: &mut [u16])
     }
     if same(name, b"deep insert verdict") {
         answer(sloefertand_deep_insert_verdict(r, p, x), 1);
+    }
+}
+
+// The checks of another shop's witness.
+pub(crate) fn evidence(name: &[u8], r: &[u16], p: &[u16], x: &[u16], t: &[u16]) {
+    if same(name, b"delete evidence") {
+        answer(sloefertand_delete_evidence(r, p, t), 1);
+        return;
+    }
+    if same(name, b"insert evidence") {
+        answer(sloefertand_insert_evidence(r, p, x, t), 1);
     }
 }
 

@@ -142,7 +142,7 @@ fn reveal(line: &[u8], t: &[u16], m: &[u8], y: &[u8], s: Sizes) {
     }
 }
 
-// A check, a read, a verdict or a plan.
+// A check, a read, a verdict, another shop's witness or a plan.
 fn ask(
     name: &[u8],
     r: &[u16],
@@ -157,6 +157,7 @@ fn ask(
     calls::check(name, r, x, t, m, u, v);
     calls::read(name, r, x, t, m, u, y);
     calls::judge(name, r, p, x, t);
+    calls::evidence(name, r, p, x, t);
     calls::plan(name, x, t, u, v);
 }
 

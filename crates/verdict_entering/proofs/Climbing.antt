@@ -93,7 +93,7 @@ somewhere-to f zero e g = absurd (false≢true e)
 somewhere-to f (suc n) e g = either (somewhere f n) (f n) e (λ l. somewhere-to f n l (λ k h. g k (omega arith))) (λ here. g n (omega arith) here)
 
 -- two tests that hold together are one
-same-test : (a b : Bool) → (a ≡ true → b ≡ true) → (b ≡ true → a ≡ true) → a ≡ b
+pub same-test : (a b : Bool) → (a ≡ true → b ≡ true) → (b ≡ true → a ≡ true) → a ≡ b
 same-test true b f g = sym (f refl)
 same-test false true f g = g refl
 same-test false false f g = refl

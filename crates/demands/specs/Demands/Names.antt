@@ -20,7 +20,7 @@ pub use Rattle.tables.specs.Checks.{_then_, refuse, outputCheck, patternCheck, 
 -- the numbers that go out to C: what each exported function returns
 pub use Rattle.c_answer.specs.declared.answer.Answer.{Answer}
 pub use Rattle.c_answer.specs.Answers.{refusing, Told}
-pub use Rattle.c_numbers.specs.Numbers.{ofChecked, ofDeleted, ofInserted, ofVerdict, ofDeeply}
+pub use Rattle.c_numbers.specs.Numbers.{ofChecked, ofDeleted, ofInserted, ofVerdict, ofDeeply, ofEvidence}
 pub use Rattle.c_numbers.specs.Numbers.{ofStepped, ofPlanned, ofParsed, ofSpelled, ofPrinted}
 -- selection: by embeddings, in rows, computed
 pub use Rattle.selection.specs.Lists.{count}
@@ -38,8 +38,9 @@ pub use Rattle.outcomes.specs.declared.updates.Deleted.{Deleted}
 pub use Rattle.outcomes.specs.declared.updates.Deleted.the-variants as deleted
 pub use Rattle.outcomes.specs.declared.updates.Inserted.the-variants as inserted
 pub use Rattle.demands.specs.Updates.{DeletedBy, AllDeletedBy, InsertedBy}
--- verdicts: NodeVerdict is promised by delete_verdict and insert_verdict, DeepVerdict by deep_delete_verdict and deep_insert_verdict
-pub use Rattle.conflict.specs.Conflict.{Update, delete, insert, pattern, after as after-update, UpdateBits, Witness, Conflict, Deep, SmallestWitness, Chain}
+-- verdicts: NodeVerdict is promised by delete_verdict and insert_verdict, DeepVerdict by deep_delete_verdict and deep_insert_verdict, Checks by
+-- delete_evidence and insert_evidence
+pub use Rattle.conflict.specs.Conflict.{Update, delete, insert, pattern, after as after-update, UpdateBits, Differs, Witness, Conflict, Deep, SmallestWitness, Chain}
 pub use Rattle.check_verdict.specs.Order.{verdictCheck, deepCheck}
 pub use Rattle.verdict.specs.Promise.{NodeVerdict, witnessNodes}
 pub use Rattle.verdict_deep.specs.Promise.{DeepVerdict}
@@ -47,6 +48,10 @@ pub use Rattle.outcomes.specs.declared.verdicts.Verdict.{Verdict}
 pub use Rattle.outcomes.specs.declared.verdicts.Verdict.the-variants as verdict
 pub use Rattle.outcomes.specs.declared.verdicts.Deeply.{Deeply}
 pub use Rattle.outcomes.specs.declared.verdicts.Deeply.the-variants as deep
+pub use Rattle.check_evidence.specs.Order.{evidenceCheck}
+pub use Rattle.verdict_evidence.specs.Promise.{Lost, Gained, Checks, shownNode}
+pub use Rattle.outcomes.specs.declared.verdicts.Evidence.{Evidence}
+pub use Rattle.outcomes.specs.declared.verdicts.Evidence.the-variants as evidence
 pub use Rattle.marked.specs.Marked.{Marked}
 -- batches: stepAt is promised by the walker's next and by step, placeAfter and numberAfter by its moved, Plan by plan
 pub use Rattle.order.specs.Frames.{Frame, At, read, update, earlier, number}

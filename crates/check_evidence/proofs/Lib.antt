@@ -1,0 +1,2 @@
+-- Laws of the checks of a proposed tree.
+pub mod Accepting

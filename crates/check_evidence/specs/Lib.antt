@@ -1,0 +1,2 @@
+-- The order of checks for a proposed tree.
+pub mod Order

@@ -1,0 +1,27 @@
+-- The loop ends: what is left of its range falls.
+use Prim.Native.Nat.{_≤_, _-_}
+use borrow.Author.Needs.{needs}
+use Rattle.test_small.proofs.damaged_evidence.inserts.Statement.{statement}
+use Rattle.test_small.proofs.damaged_evidence.inserts.Tie as tie
+
+abbrev Inv-loop : tie.InvT-loop
+Inv-loop r s₀ c₀ s c = c ≤ 2028
+
+abbrev μ-loop : tie.MeasureT-loop
+μ-loop r s₀ c₀ s c = 2028 - c
+
+pub inserts-spec : {M : Type 1} → statement M
+inserts-spec =
+    tie.close
+    (tie.spec
+    Inv-loop
+    μ-loop
+    (λ c κs. search needs)
+    (λ c. search needs)
+    (λ c κs. search needs)
+    (λ c κs. search needs)
+    (λ c κs. search needs)
+    (λ c. search needs)
+    (λ c. search needs)
+    (λ c. search needs)
+    (λ c. search needs))
