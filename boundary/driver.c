@@ -18,9 +18,9 @@
 
 #define COUNT(array) (sizeof(array) / sizeof((array)[0]))
 
-#define SCRIPT_BYTES 65536u /* bytes of a script */
-#define TABLE_WORDS 16640u  /* words of a table */
-#define TABLE_BYTES 69632u  /* bytes of a table, and numbers of a line */
+#define SCRIPT_BYTES 131072u /* bytes of a script */
+#define TABLE_WORDS 16640u   /* words of a table */
+#define TABLE_BYTES 69632u   /* bytes of a table, and numbers of a line */
 
 /* The line at hand, counted from 1; 0 before the first and behind the last. */
 static size_t line_number = 0;
@@ -165,6 +165,10 @@ static sloefertand_answer write_pattern(const argument *a) {
     return sloefertand_write_pattern(a[0].bytes, a[0].size, a[1].words, a[1].size, a[2].bytes, a[2].size);
 }
 
+static sloefertand_answer read_tree(const argument *a) {
+    return sloefertand_read_tree(a[0].bytes, a[0].size, a[1].words, a[1].size);
+}
+
 static sloefertand_answer write_tree(const argument *a) {
     return sloefertand_write_tree(a[0].words, a[0].size, a[1].bytes, a[1].size);
 }
@@ -193,6 +197,7 @@ static const function functions[] = {
     {"write_line", write_line, 1, {{"words", 'x'}, {"line", 'y'}}},
     {"read_pattern", read_pattern, 1, {{"list", 'l'}, {"text", 'm'}, {"words", 't'}}},
     {"write_pattern", write_pattern, 1, {{"list", 'l'}, {"pattern", 'r'}, {"text", 'y'}}},
+    {"read_tree", read_tree, 1, {{"text", 'm'}, {"words", 't'}}},
     {"write_tree", write_tree, 1, {{"tree", 'x'}, {"text", 'y'}}},
     {"print", print_plan, 1, {{"lines", 'm'}, {"text", 'y'}}},
 };
@@ -570,7 +575,7 @@ static void run_input(void) {
         fail("the script could not be read");
     }
     if (SCRIPT_BYTES < size) {
-        fail("the script has over 65,536 bytes");
+        fail("the script has over 131,072 bytes");
     }
     run((text){input, input + size});
     for (size_t i = 0; i < COUNT(functions); i++) {

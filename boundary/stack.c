@@ -1,7 +1,8 @@
 /* Measures the stack that each call of the library takes. A call runs on a stack of its own, which is filled with one byte before;
  * the deepest byte that changed says how far it went, less what a call of nothing takes. Patterns have 64 steps, inserted and
  * proposed trees 256 nodes, each below the one before it, the batch fills its words, a plain reading has 8 steps on 16 nodes, a
- * list has 256 names: the longest of each, so that every inside is reached.
+ * list has 256 names: the longest of each, so that every inside is reached. A tree is read from the tags of such a tree, and before
+ * that from a text of 5,000 levels, which 2 refuses: more levels than the library holds at once.
  *
  * Prints a line a function: its bytes, and the most that the header says. Status 1 where one takes more than that; 2 where a call
  * was refused, and so measured nothing. */
@@ -16,6 +17,7 @@
 #define COUNT(array) (sizeof(array) / sizeof((array)[0]))
 #define FILLING 0xA5
 #define USED 1000u
+#define LEVELS 5000u
 
 static uint16_t steps[2 * SLOEFERTAND_STEPS], tree[2 * SLOEFERTAND_TREE_NODES], node[] = {0, 1};
 static uint16_t plain_steps[2 * SLOEFERTAND_PLAIN_STEPS], plain_tree[2 * SLOEFERTAND_PLAIN_NODES];
@@ -25,8 +27,9 @@ static uint16_t witness[SLOEFERTAND_WITNESS_WORDS], plan[SLOEFERTAND_FRAMES], wo
 static uint8_t line[SLOEFERTAND_LINE_DIGITS], lines[4 * SLOEFERTAND_BATCH_WORDS + SLOEFERTAND_FRAMES], text[SLOEFERTAND_PLAN_BYTES];
 static uint8_t list[5 * SLOEFERTAND_NAMES], pattern_text[6 * SLOEFERTAND_STEPS];
 static uint16_t named[SLOEFERTAND_PATTERN_WORDS];
-static uint8_t tree_text[SLOEFERTAND_TREE_BYTES(SLOEFERTAND_TREE_NODES)];
-static size_t batch_words, line_bytes, lines_bytes, list_bytes, pattern_text_bytes;
+static uint8_t tree_text[SLOEFERTAND_TREE_BYTES(SLOEFERTAND_TREE_NODES)], deep_text[(4 + 5) * LEVELS];
+static uint16_t tree_words[SLOEFERTAND_TREE_WORDS];
+static size_t batch_words, line_bytes, lines_bytes, list_bytes, pattern_text_bytes, tree_text_bytes;
 
 static sloefertand_answer answer;
 
@@ -70,6 +73,12 @@ static void read_pattern(void) {
 static void write_pattern(void) {
     answer = sloefertand_write_pattern(list, list_bytes, named, COUNT(named), pattern_text, COUNT(pattern_text));
 }
+static void read_tree(void) {
+    answer = sloefertand_read_tree(deep_text, COUNT(deep_text), tree_words, COUNT(tree_words));
+    if (answer.refusal == 2) {
+        answer = sloefertand_read_tree(tree_text, tree_text_bytes, tree_words, COUNT(tree_words));
+    }
+}
 static void write_tree(void) { answer = sloefertand_write_tree(tree, COUNT(tree), tree_text, COUNT(tree_text)); }
 static void printing(void) { answer = sloefertand_print(lines, lines_bytes, text, COUNT(text)); }
 
@@ -99,6 +108,7 @@ static const struct measured {
     {"write_pattern", write_pattern, 6000},
     {"read_pattern", read_pattern, 6000},
     {"write_tree", write_tree, 39000},
+    {"read_tree", read_tree, 9000},
     {"print", printing, 62000},
 };
 
@@ -150,6 +160,15 @@ static void fill_texts(void) {
         sloefertand_write_pattern(list, list_bytes, named, COUNT(named), pattern_text, COUNT(pattern_text)).first;
 }
 
+/* The tags of the chain, and start tags inside each other with an end tag for each. */
+static void fill_tags(void) {
+    tree_text_bytes = sloefertand_write_tree(tree, COUNT(tree), tree_text, COUNT(tree_text)).first;
+    for (size_t i = 0; i < LEVELS; i++) {
+        memcpy(deep_text + 4 * i, "<n1>", 4);
+        memcpy(deep_text + 4 * LEVELS + 5 * i, "</n1>", 5);
+    }
+}
+
 static unsigned char stack[1u << 20];
 static ucontext_t here, there;
 
@@ -179,6 +198,7 @@ int main(void) {
     fill_chain(rows, USED);
     fill_batch();
     fill_texts();
+    fill_tags();
     least = taken(nothing);
     for (size_t i = 0; i < COUNT(calls); i++) {
         size_t bytes = taken(calls[i].call) - least;

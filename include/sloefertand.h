@@ -8,8 +8,8 @@
  * What a call keeps for itself is on the stack. On x86-64 print takes at most 62,000 bytes of it; insert_evidence 45,000;
  * delete_evidence 43,000; insert and delete 42,000; write_tree 39,000, for 256 nodes each below the one before it; read 38,000, for
  * a set of steps a node; plan 27,000; insert_verdict and deep_insert_verdict 26,000; delete_verdict and deep_delete_verdict 10,000;
- * read_pattern and write_pattern 6,000; each other call 2,000. These are measured, by boundary/stack.c on the longest patterns,
- * trees, batches and lists, and not proved.
+ * read_tree 9,000, for the labels of open elements; read_pattern and write_pattern 6,000; each other call 2,000. These are measured,
+ * by boundary/stack.c on the longest patterns, trees, batches and lists, and not proved. None grows with the depth of a text.
  *
  * BUFFERS
  * A buffer is a pointer and, behind it, its length in elements (uint16_t words or bytes, not sizeof). The caller answers for
@@ -45,10 +45,10 @@
  *   12  a wrong used count or mark                                                  0
  *   13  a malformed line                                                            line
  *   14  a list of names that breaks (table 8)                                       entry
- *       text that is no pattern's (table 7)                                         length of its longest start that fits
+ *       text that is no pattern's, or no tree's (table 7)                           length of its longest start that fits
  *   15  a name that is not listed; a label without a name                           step
  * Steps, nodes, words and entries are counted from 0, lines from 1. The table at fault: 1 read, or a pattern on its own, 2 update,
- * 3 inserted tree, 4 output or room, 5 document or proposed tree, 6 batch, 7 text of a pattern, 8 list of names.
+ * 3 inserted tree, 4 output or room, 5 document or proposed tree, 6 batch, 7 text of a pattern or tree, 8 list of names.
  * In a batch the table is 6, and the place is a word for every number but 7 (table 4, place 0) and 13: its offset from the start of
  * the batch. It is the count (1, 2), the axis (3), the parent (4), the label (5), the step count (6), the kind (8), the first word
  * missing, which is one past the last that is there (9), the start of the frame too many, or 16,384 for words (10). Which frame that
@@ -67,7 +67,7 @@ extern "C" {
 
 /* The limits. */
 #define SLOEFERTAND_STEPS 64u           /* steps of a pattern */
-#define SLOEFERTAND_TREE_NODES 256u     /* nodes of an inserted tree, of a proposed one, and of one that is written as tags */
+#define SLOEFERTAND_TREE_NODES 256u     /* nodes of an inserted tree, of a proposed one, and of one written as tags or read */
 #define SLOEFERTAND_USED_NODES 4096u    /* nodes in use of a document */
 #define SLOEFERTAND_PLAIN_STEPS 8u      /* steps and nodes of a plain reading */
 #define SLOEFERTAND_PLAIN_NODES 16u
@@ -78,6 +78,7 @@ extern "C" {
 #define SLOEFERTAND_NAMES 256u          /* names of a list */
 #define SLOEFERTAND_PATTERN_WORDS 128u  /* words with room for any pattern */
 #define SLOEFERTAND_WITNESS_WORDS 254u  /* words with room for the witness of any verdict */
+#define SLOEFERTAND_TREE_WORDS 512u     /* words with room for any tree that is read from tags */
 #define SLOEFERTAND_PLAN_BYTES 1664u    /* bytes with room for any printed plan */
 
 /* Bytes with room for any tree of so many nodes, from 1 on, that is written as tags. */
@@ -245,6 +246,18 @@ sloefertand_answer sloefertand_write_pattern(const uint8_t *list, size_t list_by
  * 256 of them.
  * Refusals: the tree's (1, 2, 4, 5 of table 5), then 7 where the whole text does not fit into `text`. */
 sloefertand_answer sloefertand_write_tree(const uint16_t *tree, size_t tree_words, uint8_t *text, size_t text_bytes);
+
+/* Reads `text` into `words`, as a tree whose nodes are numbered in the order of their start tags. first: the words, two a node. What
+ * is read is exactly that shape, but that <n1></n1> is read as <n1/>: labels are 1 to 65,535 and have no leading zero, each end tag
+ * has the label of the element that it ends, one element is outermost, and nothing stands behind it, no line end either. A tree that
+ * is written is read as the same tree, with its nodes numbered in that order; a tree that was read is written as the same tags, with
+ * empty pairs shortened.
+ * Texts may be of any length and any depth. The time grows with the length, and no more than that where at most 4,096 elements are
+ * open at once; a deeper text is gone through again from its start once for each 4,096 levels that it comes up.
+ * Refusals: 14 of table 7 where the text has another shape; the place is the length of its longest start that some right text has,
+ * so all of it where something is missing at its end. 2 of table 3 where there are more than 256 nodes; then 7.
+ * SLOEFERTAND_TREE_WORDS are always enough. */
+sloefertand_answer sloefertand_read_tree(const uint8_t *text, size_t text_bytes, uint16_t *words, size_t words_words);
 
 #ifdef __cplusplus
 }

@@ -3,7 +3,10 @@
 use crate::documents::Document;
 use crate::inputs::{chain, random_tree};
 use crate::measure::text;
-use crate::rows::{delete_verdict, insert_evidence, insert_verdict, plan, read_document, reads, write_tree, LABELS};
+use crate::rows::{
+    delete_verdict, insert_evidence, insert_verdict, plan, read_deep, read_document, read_tree, reads, write_tree,
+    LABELS,
+};
 
 /// A size: its time, and how much more than at the size before.
 fn print_size(what: &str, size: usize, times: &[f64], before: &mut Option<f64>) {
@@ -49,6 +52,17 @@ pub fn print() {
     print_sizes("tags, nodes of a chain", &[32, 64, 128, 256], |n| {
         write_tree(&chain(n, LABELS))
     });
+    print_sizes("tags read, nodes of a random tree", &[32, 64, 128, 256], |n| {
+        read_tree(&random_tree(n, LABELS))
+    });
+    print_sizes("tags read, nodes of a chain", &[32, 64, 128, 256], |n| {
+        read_tree(&chain(n, LABELS))
+    });
+    print_sizes(
+        "tags read, levels of a chain that is refused by 2",
+        &[2048, 4096, 8192, 16384, 32768, 65536, 131072],
+        read_deep,
+    );
     let read = &reads()[1];
     print_sizes(
         "read of 4 steps, nodes of a random tree",

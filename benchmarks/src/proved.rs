@@ -100,6 +100,7 @@ extern "C" {
     ) -> Answer;
     fn sloefertand_plan(batch: *const u16, batch_words: usize, plan: *mut u16, plan_words: usize) -> Answer;
     fn sloefertand_write_tree(tree: *const u16, tree_words: usize, text: *mut u8, text_bytes: usize) -> Answer;
+    fn sloefertand_read_tree(text: *const u8, text_bytes: usize, words: *mut u16, words_words: usize) -> Answer;
 }
 
 /// A count, or the number of a refusal.
@@ -187,4 +188,10 @@ pub fn plan(batch: &[u16], plan: &mut [u16]) -> Counted {
 pub fn write_tree(tree: &[u16], text: &mut [u8]) -> Counted {
     // As in `read`.
     counted(unsafe { sloefertand_write_tree(tree.as_ptr(), tree.len(), text.as_mut_ptr(), text.len()) })
+}
+
+/// A tree from nested tags; the number of words.
+pub fn read_tree(text: &[u8], words: &mut [u16]) -> Counted {
+    // As in `read`.
+    counted(unsafe { sloefertand_read_tree(text.as_ptr(), text.len(), words.as_mut_ptr(), words.len()) })
 }

@@ -213,6 +213,61 @@ fn tags_time(_: &[u16], _: &[u8]) -> Option<f64> {
     None
 }
 
+/// The tags of a tree.
+fn tags_of(tree: &[u16]) -> Vec<u8> {
+    let mut text = vec![0; 17 * tree.len() / 2];
+    let bytes = proved::write_tree(tree, &mut text).expect("the tree is written");
+    text.truncate(bytes);
+    text
+}
+
+/// A tree read from tags, beside the peer and libxml2.
+pub fn read_tree(tree: &[u16]) -> Vec<f64> {
+    let text = tags_of(tree);
+    let mut times = read_tags(&text);
+    times.extend(parsed_time(&text));
+    times
+}
+
+/// A text read as tags, beside the peer.
+fn read_tags(text: &[u8]) -> Vec<f64> {
+    let (mut a, mut b) = ([0; 2 * peer::TREE_NODES], [0; 2 * peer::TREE_NODES]);
+    assert_eq!(proved::read_tree(text, &mut a), peer::tags_in::read_tree(text, &mut b));
+    assert_eq!(a, b);
+    let mut ours = || {
+        let _ = black_box(proved::read_tree(black_box(text), &mut a));
+    };
+    let mut theirs = || {
+        let _ = black_box(peer::tags_in::read_tree(black_box(text), &mut b));
+    };
+    fastest(&mut [&mut ours, &mut theirs])
+}
+
+/// A chain of so many levels, more than a tree may have: what reading it takes.
+pub fn read_deep(levels: usize) -> Vec<f64> {
+    let mut text = b"<n1>".repeat(levels);
+    text.extend(b"</n1>".repeat(levels));
+    read_tags(&text)
+}
+
+/// libxml2's time to read the same text into a document, and to free that.
+#[cfg(feature = "libxml2")]
+fn parsed_time(text: &[u8]) -> Option<f64> {
+    use crate::xpath::{Parsed, Tags};
+    let mut tags = Tags::with_room(2 * text.len());
+    assert_eq!(tags.of_read(&Parsed::of(text)), text);
+    let mut parse = || {
+        black_box(Parsed::of(black_box(text)));
+    };
+    fastest(&mut [&mut parse]).pop()
+}
+
+/// Without libxml2 there is none.
+#[cfg(not(feature = "libxml2"))]
+fn parsed_time(_: &[u8]) -> Option<f64> {
+    None
+}
+
 /// The reads that are timed.
 pub fn reads() -> Vec<Read> {
     vec![
@@ -252,6 +307,14 @@ pub fn print() {
     print_row(
         "tags, chain, 256 nodes, labels to 5 digits",
         &write_tree(&chain(256, LABELS)),
+    );
+    print_row(
+        "tags read, random tree, 256 nodes, labels to 5 digits",
+        &read_tree(&random_tree(256, LABELS)),
+    );
+    print_row(
+        "tags read, chain, 256 nodes, labels to 5 digits",
+        &read_tree(&chain(256, LABELS)),
     );
     for document in Document::all() {
         let mut all = reads();

@@ -49,6 +49,13 @@ extern "C" {
     fn xmlBufferEmpty(buffer: *mut Buffer);
     fn xmlBufferFree(buffer: *mut Buffer);
     fn xmlNodeDump(buffer: *mut Buffer, document: *mut c_void, node: *mut Node, level: c_int, format: c_int) -> c_int;
+    fn xmlReadMemory(
+        text: *const c_char,
+        bytes: c_int,
+        name: *const c_char,
+        encoding: *const c_char,
+        options: c_int,
+    ) -> *mut c_void;
 }
 
 /// A path, compiled once.
@@ -153,13 +160,47 @@ impl Tags {
 
     /// The tags of a tree, written anew.
     pub fn of(&mut self, tree: &Tree) -> &[u8] {
+        self.of_document(tree.document)
+    }
+
+    /// The tags of a document that was read.
+    pub fn of_read(&mut self, document: &Parsed) -> &[u8] {
+        self.of_document(document.0)
+    }
+
+    fn of_document(&mut self, document: *mut c_void) -> &[u8] {
         // The document and its root are live; what was written lies in the buffer until it is emptied.
         unsafe {
             xmlBufferEmpty(self.0);
-            let bytes = xmlNodeDump(self.0, tree.document, xmlDocGetRootElement(tree.document), 0, 0);
+            let bytes = xmlNodeDump(self.0, document, xmlDocGetRootElement(document), 0, 0);
             assert!(bytes >= 0, "libxml2 writes the tags");
             std::slice::from_raw_parts((*self.0).content, (*self.0).used as usize)
         }
+    }
+}
+
+/// Texts of any depth are read.
+const HUGE: c_int = 1 << 19;
+
+/// A document that libxml2 read.
+pub struct Parsed(*mut c_void);
+
+impl Parsed {
+    pub fn of(text: &[u8]) -> Parsed {
+        // The text outlives the call; the document is freed once, by `drop`.
+        let document = unsafe {
+            let bytes = c_int::try_from(text.len()).expect("the text is no longer than that");
+            xmlReadMemory(text.as_ptr().cast(), bytes, ptr::null(), ptr::null(), HUGE)
+        };
+        assert!(!document.is_null(), "libxml2 reads the tags");
+        Parsed(document)
+    }
+}
+
+impl Drop for Parsed {
+    fn drop(&mut self) {
+        // Made by `of`, freed once.
+        unsafe { xmlFreeDoc(self.0) }
     }
 }
 

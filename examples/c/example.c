@@ -1,5 +1,6 @@
 /* What a program in C does with the library: it plans a batch, finds the word at fault in another, reads a line, asks for verdicts,
- * writes a witness as XML, checks those of a partner, reads a document, reads and writes patterns as text and meets refusals.
+ * writes a witness as XML, reads a tree from XML, checks a partner's witnesses, reads a document, reads and writes patterns as text
+ * and meets refusals.
  * examples/run builds and runs it. Names a to e are the labels 1 to 5; the patterns as text have names of their own. */
 #include <stdint.h>
 #include <stdio.h>
@@ -82,6 +83,30 @@ static void show_tags(const uint16_t *tree, size_t nodes) {
     }
 }
 
+/* A caret below the first byte of a text that is wrong, or behind a text that is only cut. */
+static void show_how_far(const char *text, size_t place, const char *kind) {
+    printf("%*s^ no %s %s so\n", (int)place, "", kind, place == strlen(text) ? "ends" : "goes on");
+}
+
+/* The nodes of a tree, a line each. */
+static void show_nodes(const uint16_t *tree, size_t nodes) {
+    for (size_t node = 0; node < nodes; node++) {
+        printf("node %zu: parent %u, label %u\n", node, (unsigned)tree[2 * node], (unsigned)tree[2 * node + 1]);
+    }
+}
+
+/* A tree from its tags, a node a line; where the text is refused, a caret shows how far it is right. */
+static void show_tree(const char *text) {
+    uint16_t tree[SLOEFERTAND_TREE_WORDS];
+    sloefertand_answer read = sloefertand_read_tree((const uint8_t *)text, strlen(text), tree, COUNT(tree));
+    printf("%s\n", text);
+    if (read.refusal == 14) {
+        show_how_far(text, read.place, "tree");
+    } else if (!refused(read)) {
+        show_nodes(tree, read.first / 2);
+    }
+}
+
 /* A verdict, with its witness, a node a line and as XML. */
 static void show_verdict(sloefertand_answer verdict, const uint16_t *witness) {
     if (refused(verdict)) {
@@ -92,9 +117,7 @@ static void show_verdict(sloefertand_answer verdict, const uint16_t *witness) {
         return;
     }
     printf("conflict, shown by %zu nodes\n", verdict.first);
-    for (size_t node = 0; node < verdict.first; node++) {
-        printf("node %zu: parent %u, label %u\n", node, (unsigned)witness[2 * node], (unsigned)witness[2 * node + 1]);
-    }
+    show_nodes(witness, verdict.first);
     show_tags(witness, verdict.first);
 }
 
@@ -161,8 +184,7 @@ static sloefertand_answer read_text(const char *text, uint16_t *words) {
 /* Says in words why a text is refused: a caret shows how far it is right, or the step is told whose name is not listed. */
 static void show_why(const char *text, sloefertand_answer answer) {
     if (answer.refusal == 14 && answer.table == 7) {
-        const char *why = answer.place == strlen(text) ? "no pattern ends so" : "no pattern goes on so";
-        printf("%*s^ %s\n", (int)answer.place, "", why);
+        show_how_far(text, answer.place, "pattern");
     } else if (answer.refusal == 15) {
         printf("step %zu has a name that is not listed\n", answer.place);
     } else {
@@ -262,6 +284,12 @@ int main(void) {
     show_evidence("insert c at a/b", new_node, "new");
     sloefertand_answer none = sloefertand_delete_evidence(a_any_c, COUNT(a_any_c), a_b, COUNT(a_b), flat, COUNT(flat));
     show_evidence("delete a/b, another tree", none, "lost");
+
+    printf("\na renewal from XML, and texts that are refused\n");
+    show_tree("<n1><n2><n3/></n2><n4></n4></n1>");
+    show_tree("<n1><n2><n3/></n1></n2>");
+    show_tree("<n1><n65536/></n1>");
+    show_tree("<n1><n2/>");
 
     printf("\nread a//c of a document\n");
     show_read(a_any_c, COUNT(a_any_c));

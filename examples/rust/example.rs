@@ -1,12 +1,13 @@
 //! What a program in Rust does with the library: it plans a batch, finds the word at fault in another, reads a line, asks for verdicts,
-//! writes a witness as XML, checks those of a partner, reads a document, reads and writes patterns as text and meets refusals.
-//! `examples/run` builds and runs it. Names a to e are the labels 1 to 5; the patterns as text have names of their own.
+//! writes a witness as XML, reads a tree from XML, checks a partner's witnesses, reads a document, reads and writes patterns as text
+//! and meets refusals. `examples/run` builds and runs it. Names a to e are the labels 1 to 5; the patterns as text have names of their own.
 
 /// The library behind safe functions over slices: `include/sloefertand.h` says what each promises and refuses.
 mod sloefertand {
-    /// Words with room for the plan of any batch, for the witness of any verdict, for any line, and for any pattern.
+    /// Words with room for the plan of any batch, for the witness of any verdict, for any tree, for any line, and for any pattern.
     pub const FRAMES: usize = 128;
     pub const WITNESS_WORDS: usize = 254;
+    pub const TREE_WORDS: usize = 512;
     pub const LINE_WORDS: usize = 643;
     pub const PATTERN_WORDS: usize = 128;
 
@@ -156,6 +157,12 @@ mod sloefertand {
                 tree_words: usize,
                 text: *mut u8,
                 text_bytes: usize,
+            ) -> Answer;
+            pub fn sloefertand_read_tree(
+                text: *const u8,
+                text_bytes: usize,
+                words: *mut u16,
+                words_words: usize,
             ) -> Answer;
         }
     }
@@ -370,6 +377,19 @@ mod sloefertand {
         };
         answer.values().map(|values| values.first)
     }
+
+    /// The number of words of a tree given as nested tags; they are written to `words`.
+    pub fn read_tree(text: &[u8], words: &mut [u16]) -> Result<usize, Refusal> {
+        let answer = unsafe {
+            exported::sloefertand_read_tree(
+                text.as_ptr(),
+                text.len(),
+                words.as_mut_ptr(),
+                words.len(),
+            )
+        };
+        answer.values().map(|values| values.first)
+    }
 }
 
 use sloefertand::Refusal;
@@ -442,6 +462,24 @@ fn show_tags(tree: &[u16]) -> Result<(), Refusal> {
     Ok(())
 }
 
+/// The nodes of a tree, a line each.
+fn show_nodes(tree: &[u16]) {
+    for (node, words) in tree.chunks(2).enumerate() {
+        println!("node {node}: parent {}, label {}", words[0], words[1]);
+    }
+}
+
+/// A tree from its tags, a node a line; where the text is refused, a caret shows how far it is right.
+fn show_tree(text: &str) {
+    println!("{text}");
+    let mut tree = [0; sloefertand::TREE_WORDS];
+    match sloefertand::read_tree(text.as_bytes(), &mut tree) {
+        Ok(words) => show_nodes(&tree[..words]),
+        Err(refusal) if refusal.number == 14 => show_how_far(text, refusal.place, "tree"),
+        Err(refusal) => show_refusal(refusal),
+    }
+}
+
 /// A verdict, with its witness, a node a line and as XML.
 fn show_verdict(nodes: usize, witness: &[u16]) -> Result<(), Refusal> {
     if nodes == 0 {
@@ -449,9 +487,7 @@ fn show_verdict(nodes: usize, witness: &[u16]) -> Result<(), Refusal> {
         return Ok(());
     }
     println!("conflict, shown by {nodes} nodes");
-    for (node, words) in witness[..2 * nodes].chunks(2).enumerate() {
-        println!("node {node}: parent {}, label {}", words[0], words[1]);
-    }
+    show_nodes(&witness[..2 * nodes]);
     show_tags(&witness[..2 * nodes])
 }
 
@@ -508,13 +544,16 @@ fn pattern_of(text: &str) -> Result<Vec<u16>, Refusal> {
     Ok(words[..count].to_vec())
 }
 
+/// A caret below the first byte of a text that is wrong, or behind a text that is only cut.
+fn show_how_far(text: &str, place: usize, kind: &str) {
+    let does = if place == text.len() { "ends" } else { "goes on" };
+    println!("{:1$}^ no {kind} {does} so", "", place);
+}
+
 /// Says in words why a text is refused: a caret shows how far it is right, or the step is told whose name is not listed.
 fn show_why(text: &str, refusal: Refusal) {
     match (refusal.number, refusal.table) {
-        (14, 7) if refusal.place == text.len() => {
-            println!("{:1$}^ no pattern ends so", "", refusal.place)
-        }
-        (14, 7) => println!("{:1$}^ no pattern goes on so", "", refusal.place),
+        (14, 7) => show_how_far(text, refusal.place, "pattern"),
         (15, _) => println!("step {} has a name that is not listed", refusal.place),
         _ => show_refusal(refusal),
     }
@@ -602,6 +641,12 @@ fn show_all() -> Result<(), Refusal> {
     show_evidence("insert c at a/b", new, "new");
     let none = sloefertand::delete_evidence(&A_ANY_C, &A_B, &flat)?;
     show_evidence("delete a/b, another tree", none, "lost");
+
+    println!("\na renewal from XML, and texts that are refused");
+    show_tree("<n1><n2><n3/></n2><n4></n4></n1>");
+    show_tree("<n1><n2><n3/></n1></n2>");
+    show_tree("<n1><n65536/></n1>");
+    show_tree("<n1><n2/>");
 
     println!("\nread a//c of a document");
     show_read(&A_ANY_C)?;

@@ -15,6 +15,14 @@ pub fn fitting<T>(written: Vec<T>, room: usize) -> Result<Vec<T>, Refusal> {
     Ok(written)
 }
 
+/// An answer as a table shows it: how much was written, or the refusal.
+pub fn shown<T>(answer: &Result<Vec<T>, Refusal>) -> String {
+    match answer {
+        Ok(written) => format!("ok {}", written.len()),
+        Err(refusal) => refusal.to_string(),
+    }
+}
+
 /// All elements of a buffer after a call, each of which was `filling` before it.
 pub fn after<T: Copy>(answer: &Result<Vec<T>, Refusal>, room: usize, filling: T) -> Vec<T> {
     let mut buffer = vec![filling; room];

@@ -3,7 +3,7 @@
 
 use crate::limits::STEPS;
 use crate::pattern::{Axis, Pattern, Step};
-use crate::refusal::{number, Refusal};
+use crate::refusal::{number, refused, Refusal};
 use crate::tree::{rows_of, Row, ROOT};
 
 /// The pattern of a table, or its first refusal.
@@ -64,15 +64,6 @@ fn check_node(node: usize, row: &Row) -> Result<(), usize> {
         return Err(number::LABEL_ZERO);
     }
     Ok(())
-}
-
-/// A refusal.
-fn refused(number: usize, table: usize, place: usize) -> Refusal {
-    Refusal {
-        number,
-        table,
-        place,
-    }
 }
 
 #[cfg(test)]

@@ -9,7 +9,7 @@ pub const INSERTED_NODES: usize = 256;
 /// A tree that is proposed as a witness has at most this many nodes.
 pub const PROPOSED_NODES: usize = 256;
 
-/// A tree that is written as tags has at most this many nodes.
+/// A tree that is written as tags, or read from them, has at most this many nodes.
 pub const TAGGED_NODES: usize = 256;
 
 /// A batch has at most this many frames.

@@ -1,4 +1,4 @@
-//! Sloefertand's second program: ten tables, found by trying all small trees, making all
+//! Sloefertand's second program: eleven tables, found by trying all small trees, making all
 //! small texts, and drawing some long patterns and some large trees.
 
 mod batch;
@@ -9,6 +9,7 @@ mod classes;
 mod counts;
 mod damage;
 mod damaged_proposals;
+mod deep_tags;
 mod digest;
 mod document;
 mod documents;
@@ -22,6 +23,7 @@ mod letters;
 mod limits;
 mod lines;
 mod long_reads;
+mod made_texts;
 mod node_set;
 mod numbering;
 mod pairs;
@@ -32,14 +34,20 @@ mod plans;
 mod printer;
 mod proposal_trees;
 mod proposals;
+mod read_trees;
 mod refusal;
 mod right_lists;
+mod right_tags;
 mod right_texts;
 mod rows;
 mod single_bytes;
 mod table_damages;
+mod tag_damages;
+mod tag_levels;
 mod tag_trees;
 mod tags;
+mod tags_read;
+mod tally;
 mod texts;
 mod tree;
 mod tree_tags;
@@ -58,7 +66,7 @@ use std::io::{self, BufWriter, Write};
 use std::process::ExitCode;
 
 const USAGE: &str =
-    "usage: second [pairs | documents | damage | plans | texts | deletes | reads | tags | lines | evidence | counts]";
+    "usage: second [pairs | documents | damage | plans | texts | deletes | reads | tags | lines | evidence | tags-read | counts]";
 
 /// What is asked for.
 #[derive(Clone, Copy, PartialEq, Eq)]
@@ -74,6 +82,7 @@ enum Wanted {
     Tags,
     Lines,
     Evidence,
+    TagsRead,
     Counts,
 }
 
@@ -92,6 +101,7 @@ fn wanted(arguments: &[OsString]) -> Option<Wanted> {
             "tags" => Some(Wanted::Tags),
             "lines" => Some(Wanted::Lines),
             "evidence" => Some(Wanted::Evidence),
+            "tags-read" => Some(Wanted::TagsRead),
             "counts" => Some(Wanted::Counts),
             _ => None,
         },
@@ -99,7 +109,7 @@ fn wanted(arguments: &[OsString]) -> Option<Wanted> {
     }
 }
 
-/// Writes the ten tables in order and gives all their counts.
+/// Writes the eleven tables in order and gives all their counts.
 fn write_all(numbering: &Numbering, out: &mut dyn Write) -> io::Result<counts::Counts> {
     let pairs = Pairs::tried(numbering);
     let mut counts = pairs.write(out)?;
@@ -112,6 +122,7 @@ fn write_all(numbering: &Numbering, out: &mut dyn Write) -> io::Result<counts::C
     counts.extend(tree_tags::write(out)?);
     counts.extend(lines::write(out)?);
     counts.extend(proposals::write(numbering, out)?);
+    counts.extend(tags_read::write(out)?);
     Ok(counts)
 }
 
@@ -151,6 +162,9 @@ fn run(wanted: Wanted, out: &mut dyn Write) -> io::Result<()> {
         }
         Wanted::Evidence => {
             proposals::write(&numbering, out)?;
+        }
+        Wanted::TagsRead => {
+            tags_read::write(out)?;
         }
         Wanted::Counts => counts::write(&write_all(&numbering, &mut io::sink())?, out)?,
     }

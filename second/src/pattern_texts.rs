@@ -4,7 +4,7 @@
 use crate::buffers::fitting;
 use crate::checks;
 use crate::letters::Name;
-use crate::refusal::{number, Refusal, LIST, READ, TEXT};
+use crate::refusal::{number, refused, Refusal, LIST, READ, TEXT};
 use crate::right_lists::RightLists;
 use crate::right_texts::{RightTexts, TextStep, STAR};
 use std::collections::HashMap;
@@ -81,15 +81,6 @@ fn label_of(names: &[Name], word: &[u8]) -> Option<u16> {
     }
     let place = names.iter().position(|name| name == word)?;
     Some(place as u16 + 1)
-}
-
-/// A refusal.
-fn refused(number: usize, table: usize, place: usize) -> Refusal {
-    Refusal {
-        number,
-        table,
-        place,
-    }
 }
 
 #[cfg(test)]

@@ -20,7 +20,7 @@ pub const DOCUMENT: usize = 5;
 /// The table at fault in a batch.
 pub const BATCH: usize = 6;
 
-/// The table at fault when a pattern's text is.
+/// The table at fault when a text is, a pattern's or a tree's.
 pub const TEXT: usize = 7;
 
 /// The table at fault when a list of names is.
@@ -50,6 +50,15 @@ pub struct Refusal {
     pub number: usize,
     pub table: usize,
     pub place: usize,
+}
+
+/// A refusal by its three numbers.
+pub fn refused(number: usize, table: usize, place: usize) -> Refusal {
+    Refusal {
+        number,
+        table,
+        place,
+    }
 }
 
 impl fmt::Display for Refusal {

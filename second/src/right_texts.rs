@@ -1,8 +1,7 @@
 //! Right texts of patterns, all that there are to a length, and what is found by looking among them.
 
 use crate::letters::{names, Name};
-use std::collections::BTreeMap;
-use std::ops::Bound;
+use crate::made_texts::MadeTexts;
 
 /// What is written for a step that takes any name.
 pub const STAR: &[u8] = b"*";
@@ -19,7 +18,7 @@ pub struct TextStep {
 
 /// Every right text to a length, with the steps from which it was made.
 pub struct RightTexts {
-    texts: BTreeMap<Vec<u8>, Vec<TextStep>>,
+    texts: MadeTexts<Vec<TextStep>>,
 }
 
 impl RightTexts {
@@ -33,7 +32,7 @@ impl RightTexts {
     pub fn with_names(names: &[Name], most: usize) -> RightTexts {
         let mut words = [&[STAR.to_vec()], names].concat();
         words.sort_by_key(Vec::len);
-        let mut texts = BTreeMap::new();
+        let mut texts = MadeTexts::default();
         let mut longest = vec![(Vec::new(), Vec::new())];
         while !longest.is_empty() {
             longest = longest
@@ -52,26 +51,7 @@ impl RightTexts {
 
     /// The steps of a text if it is right, else the length of its longest start that some right text has.
     pub fn steps(&self, text: &[u8]) -> Result<&[TextStep], usize> {
-        match self.texts.get(text) {
-            Some(steps) => Ok(steps),
-            None => Err(self.longest_start(text)),
-        }
-    }
-
-    /// The length of the longest start that some right text has.
-    fn longest_start(&self, text: &[u8]) -> usize {
-        let lengths = (0..=text.len()).rev();
-        let mut had = lengths.filter(|&length| self.some_begins(&text[..length]));
-        had.next().unwrap_or(0)
-    }
-
-    /// True when some right text begins so: the first that is not before it in order does, or none.
-    fn some_begins(&self, start: &[u8]) -> bool {
-        let from = (Bound::Included(start), Bound::Unbounded);
-        let mut behind = self.texts.range::<[u8], _>(from);
-        behind
-            .next()
-            .is_some_and(|(text, _)| text.starts_with(start))
+        self.texts.find(text).map(Vec::as_slice)
     }
 }
 
@@ -107,7 +87,7 @@ mod tests {
     #[test]
     fn no_text_is_made_twice() {
         let names = names(b"ab-", 4);
-        let count = |most: usize| RightTexts::with_names(&names, most).texts.len();
+        let count = |most: usize| RightTexts::with_names(&names, most).iter().count();
         // 3 words of one byte, 6 of two, 18 of three, 54 of four
         assert_eq!(count(2), 3);
         assert_eq!(count(3), 3 + 6);

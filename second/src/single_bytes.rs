@@ -1,5 +1,6 @@
 //! Table 5, one byte: what each of the 256 does in a text and in a list.
 
+use crate::buffers::shown;
 use crate::pattern_texts::Reader;
 use crate::refusal::Refusal;
 use crate::right_lists::RightLists;
@@ -37,23 +38,33 @@ const PLACES: [Place; 4] = [
     },
 ];
 
-/// What reading answers: how many words it wrote, or a refusal.
-type Answer = Result<usize, Refusal>;
+/// What reading answers: the words that it wrote, or a refusal.
+type Answer = Result<Vec<u16>, Refusal>;
 
 /// Writes for each place a line for each run of bytes with one answer; gives the number of answers.
 pub fn write(out: &mut dyn Write) -> io::Result<usize> {
     let mut tried = 0;
     for place in &PLACES {
-        let answers: Vec<Answer> = (0..=u8::MAX).map(|byte| answer(place, byte)).collect();
-        tried += answers.len();
-        let mut from = 0;
-        for run in answers.chunk_by(|one, other| one == other) {
-            let to = from + run.len() - 1;
-            writeln!(out, "{} {from} {to} {}", place.name, text(run[0]))?;
-            from = to + 1;
-        }
+        tried += write_runs(out, place.name, |byte| answer(place, byte))?;
     }
     Ok(tried)
+}
+
+/// Writes a line for each longest run of bytes with one answer; gives the number of answers.
+pub fn write_runs(
+    out: &mut dyn Write,
+    name: &str,
+    answer: impl Fn(u8) -> Answer,
+) -> io::Result<usize> {
+    let answers = (0..=u8::MAX).map(|byte| shown(&answer(byte)));
+    let answers: Vec<String> = answers.collect();
+    let mut from = 0;
+    for run in answers.chunk_by(|one, other| one == other) {
+        let to = from + run.len() - 1;
+        writeln!(out, "{name} {from} {to} {}", run[0])?;
+        from = to + 1;
+    }
+    Ok(answers.len())
 }
 
 /// The answer for one byte, found among what its small alphabet makes.
@@ -63,7 +74,7 @@ fn answer(place: &Place, byte: u8) -> Answer {
         lists: RightLists::over(&with_a(byte), list.len()),
         texts: RightTexts::over(&with_a(byte), text.len()),
     };
-    reader.read(&list, &text, 2).map(|words| words.len())
+    reader.read(&list, &text, 2)
 }
 
 /// A byte and `a`, each once.
@@ -71,14 +82,6 @@ fn with_a(byte: u8) -> Vec<u8> {
     match byte {
         b'a' => vec![byte],
         _ => vec![b'a', byte],
-    }
-}
-
-/// An answer as the table shows it.
-fn text(answer: Answer) -> String {
-    match answer {
-        Ok(words) => format!("ok {words}"),
-        Err(refusal) => refusal.to_string(),
     }
 }
 

@@ -1,4 +1,4 @@
-//! The tree tables that table 8 writes: numbered, drawn at random, and damaged.
+//! The tree tables that table 8 writes, and large ones of table 11 too: numbered, drawn at random, and damaged.
 
 use crate::draws::Draws;
 use crate::numbering::trees_of;
@@ -48,6 +48,9 @@ pub const SHAPES: [Shape; 6] = [
     Shape::Near,
     Shape::Far,
 ];
+
+/// How many nodes large trees have: multiples of 32, up to the limit.
+pub const LARGE_SIZES: [usize; 8] = [32, 64, 96, 128, 160, 192, 224, 256];
 
 /// The shape that is damaged.
 const DAMAGED_SHAPE: usize = 4;

@@ -1,11 +1,10 @@
 //! Table 8: trees written as nested tags, and tables that are refused.
 
-use crate::buffers::{after, take};
+use crate::buffers::{after, shown};
 use crate::counts::{Count, Counts};
-use crate::digest::Digest;
-use crate::refusal::Refusal;
 use crate::rows::rows;
-use crate::tag_trees::{damaged, large, shapes, with_labels, SHAPES, WIDTHS};
+use crate::tag_trees::{damaged, large, shapes, with_labels, LARGE_SIZES, SHAPES, WIDTHS};
+use crate::tally::Tally;
 use crate::tree_texts;
 use std::io::{self, Write};
 
@@ -36,12 +35,6 @@ const WORDS: &[u16] = &[0, 1, 2, 3];
 /// Bytes of the longest buffer that they are written into, one more than any needs.
 const WORDS_ROOM: usize = 24;
 
-/// Large trees have this many nodes and multiples of it, up to the limit.
-const LARGE_STEP: usize = 32;
-
-/// How many there are of each shape.
-const LARGE_SIZES: usize = 8;
-
 /// Bytes of their whole buffer, some more than any needs.
 const LARGE_ROOM: usize = 4_352;
 
@@ -50,55 +43,6 @@ const DAMAGED_WORDS: [usize; 6] = [0, 1, 511, 512, 513, 514];
 
 /// What each byte of a buffer is before a call.
 const FILLING: u8 = b'.';
-
-/// What the calls of a line answer.
-#[derive(Default)]
-struct Tally {
-    calls: usize,
-    written: usize,
-    bytes: usize,
-    digest: Digest,
-}
-
-impl Tally {
-    /// What writing each table into three rooms answers.
-    fn of(tables: impl Iterator<Item = Vec<u16>>, whole: usize) -> Tally {
-        let mut tally = Tally::default();
-        for words in tables {
-            tally.write(&words, whole);
-        }
-        tally
-    }
-
-    /// Writes a table into the whole buffer, then into as many bytes as that took,
-    /// then, if it took any, into one byte less.
-    fn write(&mut self, words: &[u16], whole: usize) {
-        let bytes = self.call(words, whole);
-        self.call(words, bytes);
-        if bytes > 0 {
-            self.call(words, bytes - 1);
-        }
-    }
-
-    /// Writes a table into so many bytes; how many of them it took.
-    fn call(&mut self, words: &[u16], room: usize) -> usize {
-        let answer = tree_texts::write(words, room);
-        take(&mut self.digest, &answer, room, FILLING);
-        let bytes = answer.as_ref().map_or(0, Vec::len);
-        self.calls += 1;
-        self.written += usize::from(answer.is_ok());
-        self.bytes += bytes;
-        bytes
-    }
-
-    /// Writes the line; gives the number of calls.
-    fn line(&self, out: &mut dyn Write, name: &str, number: usize) -> io::Result<usize> {
-        let (calls, written, bytes) = (self.calls, self.written, self.bytes);
-        let digest = self.digest.text();
-        writeln!(out, "{name} {number} {calls} {written} {bytes} {digest}")?;
-        Ok(calls)
-    }
-}
 
 /// Writes table 8.
 pub fn write(out: &mut dyn Write) -> io::Result<Counts> {
@@ -116,6 +60,15 @@ pub fn write(out: &mut dyn Write) -> io::Result<Counts> {
     ])
 }
 
+/// What writing each table into three rooms answers.
+fn tally_of(tables: impl Iterator<Item = Vec<u16>>, whole: usize) -> Tally {
+    let mut tally = Tally::default();
+    for words in tables {
+        tally.take_rooms(|room| tree_texts::write(&words, room), whole, FILLING);
+    }
+    tally
+}
+
 /// A line for each shape and for each width of a label; gives the number of calls.
 fn write_shown(out: &mut dyn Write) -> io::Result<usize> {
     let shapes = (1..=MOST_SHOWN).flat_map(shapes).map(|t| ("shape", t));
@@ -125,7 +78,7 @@ fn write_shown(out: &mut dyn Write) -> io::Result<usize> {
         let answer = tree_texts::write(&words, SHOWN_ROOM);
         let buffer = after(&answer, SHOWN_ROOM, FILLING);
         let buffer = String::from_utf8_lossy(&buffer);
-        writeln!(out, "{name} {buffer} {}", text(&answer))?;
+        writeln!(out, "{name} {buffer} {}", shown(&answer))?;
         calls += 1;
     }
     Ok(calls)
@@ -136,11 +89,11 @@ fn write_shown(out: &mut dyn Write) -> io::Result<usize> {
 fn write_small(out: &mut dyn Write) -> io::Result<usize> {
     let mut calls = 0;
     for nodes in 1..=MOST_NODES {
-        let tally = Tally::of(with_labels(nodes, &LABELS), SMALL_ROOM);
+        let tally = tally_of(with_labels(nodes, &LABELS), SMALL_ROOM);
         calls += tally.line(out, "trees", nodes)?;
     }
     for nodes in 1..=MOST_WIDE {
-        let tally = Tally::of(with_labels(nodes, &WIDTHS), SMALL_ROOM);
+        let tally = tally_of(with_labels(nodes, &WIDTHS), SMALL_ROOM);
         calls += tally.line(out, "widths", nodes)?;
     }
     Ok(calls)
@@ -154,7 +107,7 @@ fn write_words(out: &mut dyn Write) -> io::Result<usize> {
         let mut tally = Tally::default();
         for words in rows(WORDS, length) {
             for room in 0..=WORDS_ROOM {
-                tally.call(&words, room);
+                tally.take(&tree_texts::write(&words, room), room, FILLING);
             }
         }
         calls += tally.line(out, "words", length)?;
@@ -166,8 +119,8 @@ fn write_words(out: &mut dyn Write) -> io::Result<usize> {
 fn write_large(out: &mut dyn Write) -> io::Result<usize> {
     let mut calls = 0;
     for shape in 0..SHAPES.len() {
-        let sizes = (1..=LARGE_SIZES).map(|k| LARGE_STEP * k);
-        let tally = Tally::of(sizes.map(|nodes| large(shape, nodes)), LARGE_ROOM);
+        let trees = LARGE_SIZES.map(|nodes| large(shape, nodes));
+        let tally = tally_of(trees.into_iter(), LARGE_ROOM);
         calls += tally.line(out, "large", shape)?;
     }
     Ok(calls)
@@ -177,31 +130,16 @@ fn write_large(out: &mut dyn Write) -> io::Result<usize> {
 fn write_damaged(out: &mut dyn Write) -> io::Result<usize> {
     let mut calls = 0;
     for words in DAMAGED_WORDS {
-        let tally = Tally::of(damaged(words), LARGE_ROOM);
+        let tally = tally_of(damaged(words), LARGE_ROOM);
         calls += tally.line(out, "damaged", words)?;
     }
     Ok(calls)
 }
 
-/// An answer as the table shows it.
-fn text(answer: &Result<Vec<u8>, Refusal>) -> String {
-    match answer {
-        Ok(written) => format!("ok {}", written.len()),
-        Err(refusal) => refusal.to_string(),
-    }
-}
-
 #[cfg(test)]
 mod tests {
     use super::*;
-
-    /// The lines that a part writes.
-    fn lines(part: fn(&mut dyn Write) -> io::Result<usize>) -> Vec<String> {
-        let mut out = Vec::new();
-        part(&mut out).unwrap();
-        let text = String::from_utf8(out).unwrap();
-        text.lines().map(String::from).collect()
-    }
+    use crate::tally::lines;
 
     /// The numbers behind a line's name, the digest left out.
     fn numbers(line: &str) -> Vec<usize> {

@@ -7,11 +7,12 @@ pub mod meeting;
 pub mod plan;
 pub mod read;
 pub mod tags;
+pub mod tags_in;
 pub mod verdict;
 
 /// Steps of a pattern at most.
 pub const STEPS: usize = 64;
-/// Nodes of an inserted tree at most, of a proposed one, and of one that is written as tags.
+/// Nodes of an inserted tree at most, of a proposed one, and of one that is written as tags or read.
 pub const TREE_NODES: usize = 256;
 /// Nodes in use of a document at most.
 pub const USED: usize = 4096;

@@ -60,6 +60,8 @@ use Rattle.text_xml.specs.Tags.{treeText}
 use Rattle.text_xml.proofs.Decimal.{decimal-right, decimal-only}
 use Rattle.text_xml.proofs.Tags.{child-child, each-same-way, only-way}
 use Rattle.text_xml.proofs.Bytes.{tree-bytes}
+use Rattle.text_xml_form.specs.Rows.{rowsOf}
+use Rattle.text_xml_form.proofs.Same.{same-text}
 use Rattle.text_printer.proofs.Settled.{printed-one}
 use Rattle.text_printer.proofs.Enough.{room-enough}
 use Rattle.text_printer.proofs.Behind.{prints-first}
@@ -69,6 +71,7 @@ use Rattle.demands.proofs.Numbering.{stops}
 use Rattle.demands.proofs.Orders as orders
 use Rattle.demands.proofs.Texts.{lists-place, list-lines, texts, texts-place, text-steps, written-reads, read-writes}
 use Rattle.demands.proofs.Tags.{tags-enough, tags-reached, witness-text}
+use Rattle.demands.proofs.TagsIn.{tags, tags-place, read-means, read-in-order, read-sound, read-again, written-back, written-same}
 use Rattle.demands.proofs.Evidence.{evidence-exactly, first-changed, own-accepted, accepted-conflict}
 use Rattle.demands.proofs.Updates.{deleted-by, all-deleted-by, inserted-by}
 use Rattle.demands.proofs.Agreeing.{readings-agree}
@@ -95,10 +98,13 @@ demand-one =
       patterns-in = orders.patterns-in;
       patterns-out = orders.patterns-out;
       trees-out = orders.trees-out;
+      trees-in = orders.trees-in;
       lists = λ l. (list-right l, right-list l);
       lists-place = lists-place;
       texts = texts;
       texts-place = texts-place;
+      tags = tags;
+      tags-place = tags-place;
       prints = orders.prints;
       prints-one = printed-one;
       prints-refusal = λ s line before why h. stops h;
@@ -244,6 +250,13 @@ besides =
       tags-enough = tags-enough;
       tags-reached = tags-reached;
       witness-text = witness-text;
+      read-means = read-means;
+      read-in-order = read-in-order;
+      read-sound = read-sound;
+      read-again = read-again;
+      written-back = written-back;
+      written-same = written-same;
+      renumbered-text = λ t u sound sound′ old. same-text t u sound sound′;
       clear-stays = λ r u before after h. h .kept;
       witness-behind = λ r u before after n h. (h .long, h .behind);
       marks-behind = λ p d marks n h. (delete-length p d h, delete-behind p d h);
@@ -255,6 +268,7 @@ besides =
       pattern-behind = λ l s before after n h. behind (patternOf (lines l) (stepsOf s)) before (h .1 ∙ sym (length-words (lines l) (stepsOf s))) (h .2);
       text-behind = λ l p before after n h. behind (textOf (lines l) p) before (h .1) (h .2);
       tags-behind = λ t before after n h. behind (treeText t) before (h .1) (h .2);
+      tree-behind = λ s before after n h. behind (rowsOf s) before (h .1) (h .2);
       output-enough = λ s before after why h. room-enough h refl;
       input-enough = prints-first;
       examples = marked;

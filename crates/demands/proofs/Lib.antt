@@ -4,6 +4,7 @@ pub mod Orders
 pub mod Texts
 pub mod Witnesses
 pub mod Tags
+pub mod TagsIn
 pub mod Evidence
 pub mod Updates
 pub mod Agreeing

@@ -28,6 +28,7 @@ use Rattle.text_pattern.specs.Meaning.{textCheck, listed}
 use Rattle.text_pattern_in.specs.Reading.{listedCheck, readTextCheck}
 use Rattle.text_pattern_out.specs.Writing.{numberCheck, writeTextCheck}
 use Rattle.text_xml.specs.Tags.{treeText}
+use Rattle.text_xml_in.specs.Reading.{tagsCheck, readTreeCheck}
 use Rattle.text_xml_out.specs.Writing.{writeTreeCheck}
 use Rattle.text_printer.specs.Printer.{takeCheck, Lines, bad, good, stopped}
 use Rattle.demands.specs.Demands.{Numbered}
@@ -210,6 +211,10 @@ patterns-out l p room =
 pub trees-out : (t : List ℕ) (room : ℕ) → OnlyNumbered (writeTreeCheck t room)
 unfolding writeTreeCheck
 trees-out t room = chained (treeCheck t treeLimit 5) _ (trees t treeLimit 5) (outputs (length (treeText t)) room)
+
+pub trees-in : (s : List ℕ) (room : ℕ) → OnlyNumbered (readTreeCheck s room)
+unfolding readTreeCheck tagsCheck
+trees-in s room = search (chained, tested, outputs)
 
 -- in lines one after another
 taken : (l : List ℕ) (n : ℕ) (b : List ℕ) → OnlyNumbered (takeCheck l n b)

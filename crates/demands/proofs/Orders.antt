@@ -54,6 +54,7 @@ use Rattle.outcomes.specs.declared.texts.Spelled.{Spelled}
 use Rattle.outcomes.specs.declared.texts.Spelled.the-variants as spelled
 use Rattle.text_pattern_in.specs.Reading.{readTextCheck, ReadText}
 use Rattle.text_pattern_out.specs.Writing.{writeTextCheck, WriteText}
+use Rattle.text_xml_in.specs.Reading.{readTreeCheck, ReadTree}
 use Rattle.text_xml_out.specs.Writing.{writeTreeCheck, WriteTree}
 use Rattle.text_printer.specs.Printer.{PrintedAs}
 use Rattle.outcomes.specs.declared.texts.Printed.{Printed}
@@ -200,6 +201,13 @@ trees-out t before after a = told one
     one : (x : Printed) → WriteTree t before after x → ByOrder (writeTreeCheck t (length before)) (ofPrinted x) (after ≡ before)
     one (printed.Bytes n) h = was-fine (h .0) refl
     one (printed.Refused why) h = was-refused (numbering.trees-out t (length before)) (h .0) (h .1)
+
+pub trees-in : (s before after : List ℕ) (a : Answer) → Told ofParsed (ReadTree s before after) a → ByOrder (readTreeCheck s (length before)) a (after ≡ before)
+trees-in s before after a = told one
+  where
+    one : (x : Parsed) → ReadTree s before after x → ByOrder (readTreeCheck s (length before)) (ofParsed x) (after ≡ before)
+    one (parsed.Words n) h = was-fine (h .0) refl
+    one (parsed.Refused why) h = was-refused (numbering.trees-in s (length before)) (h .0) (h .1)
 
 pub prints : (s before after : List ℕ) (answer : Printed) (h : PrintedAs s before after answer) → ByOrder (outputCheck (length (h .text)) (length before)) (ofPrinted answer) (after ≡ before)
 prints s before after (printed.Bytes n) h = was-fine (h .answered .0) refl

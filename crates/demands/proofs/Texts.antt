@@ -21,10 +21,12 @@ use Rattle.tables.proofs.Soundness.{size-even, accepted-pattern, accepted-steps
 use Rattle.text_names.specs.Names.{Names, NameList, BreaksAt, lines, same, listCheck}
 use Rattle.text_names.proofs.Written.{lines-written}
 use Rattle.text_names.proofs.Lists.{list-names, list-breaks, breaks-list}
-use Rattle.text_pattern.specs.Texts.{RightText, Longest}
+use Rattle.text_parts.specs.Starts.{Longest}
+use Rattle.text_parts.proofs.Starts.{longest-one}
+use Rattle.text_pattern.specs.Texts.{RightText}
 use Rattle.text_pattern.specs.Scan.{rightText, longest}
 use Rattle.text_pattern.specs.Meaning.{stepsOf, textCheck, wordsOf, stepsFrom, textOf}
-use Rattle.text_pattern.proofs.Scanning.{scan-right, right-scan, longest-start, longest-one}
+use Rattle.text_pattern.proofs.Scanning.{scan-right, right-scan, longest-start}
 use Rattle.text_pattern.proofs.Steps.{steps-spelled}
 use Rattle.text_pattern.proofs.Returning as returning
 use Rattle.text_pattern.proofs.Returning.{allListed, length-words, steps-words, labels-listed, pattern-returns, pattern-accepted, length-from, steps-listed}
@@ -46,35 +48,37 @@ lists-place l k = ((λ e. list-breaks l (record { number = 14; table = 8; place 
 pub list-lines : (l : List ℕ) (list : NameList l) → lines l ≡ list .names
 list-lines l list = ap lines (list .written) ∙ lines-written (list .names) (list .right)
 
--- a text that is right, and one that is not
-pub texts : (s : List ℕ) → (textCheck s ≡ Fine) ↔ RightText s
-unfolding textCheck
-texts s = ((λ e. scan-right s (held (rightText s) _ e)), (λ r. rw (right-scan s r)))
-
 -- the place of a refusal
 placeOf : Checked → ℕ
 placeOf Fine = 0
 placeOf (Refused r) = r .place
 
-pub texts-place : (s : List ℕ) (n : ℕ) → (textCheck s ≡ refuse 14 7 n) ↔ WrongText s n
-unfolding textCheck placeOf
-texts-place s n = (
-  λ e. record {
-    wrong = λ r. never e (rw (right-scan s r));
-    longest = placed (rightText s) e;
-  },
-  λ w. wrong (rightText s) refl w,
-)
-  where
-    placed : (b : Bool) → test b (refuse 14 7 (longest s)) ≡ refuse 14 7 n → Longest s n
-    placed true e = never e refl
-    placed false e =
-        let same : longest s ≡ n = ap placeOf e in
-        rw same at (longest-start s)
+-- a text that is right, and one that is not, by a test and a place that find them
+module _ (Right : List ℕ → Type 0) (s : List ℕ) (right : Bool) (place : ℕ) (to : right ≡ true → Right s) (from : Right s → right ≡ true) (longest : Longest Right s place) where
+  pub right-fine : (test right (refuse 14 7 place) ≡ Fine) ↔ Right s
+  right-fine = ((λ e. to (held right _ e)), (λ r. rw (from r)))
 
-    wrong : (b : Bool) → rightText s ≡ b → WrongText s n → test b (refuse 14 7 (longest s)) ≡ refuse 14 7 n
-    wrong true e w = absurd (w .wrong (scan-right s e))
-    wrong false e w = rw (longest-one s (longest s) n (longest-start s) (w .longest))
+  placed : (n : ℕ) (b : Bool) → test b (refuse 14 7 place) ≡ refuse 14 7 n → Longest Right s n
+  unfolding placeOf
+  placed n true e = never e refl
+  placed n false e =
+      let same : place ≡ n = ap placeOf e in
+      rw same at longest
+
+  wrong : (n : ℕ) (b : Bool) → right ≡ b → WrongText Right s n → test b (refuse 14 7 place) ≡ refuse 14 7 n
+  wrong n true e w = absurd (w .wrong (to e))
+  wrong n false e w = rw (longest-one Right s place n longest (w .longest))
+
+  pub wrong-refused : (n : ℕ) → (test right (refuse 14 7 place) ≡ refuse 14 7 n) ↔ WrongText Right s n
+  wrong-refused n = ((λ e. record { wrong = λ r. never e (rw (from r)); longest = placed n right e }), wrong n right refl)
+
+pub texts : (s : List ℕ) → (textCheck s ≡ Fine) ↔ RightText s
+unfolding textCheck
+texts s = right-fine RightText s (rightText s) (longest s) (scan-right s) (right-scan s) (longest-start s)
+
+pub texts-place : (s : List ℕ) (n : ℕ) → (textCheck s ≡ refuse 14 7 n) ↔ WrongText RightText s n
+unfolding textCheck
+texts-place s = wrong-refused RightText s (rightText s) (longest s) (scan-right s) (right-scan s) (longest-start s)
 
 -- a right text has one list of steps
 pub text-steps : (s : List ℕ) (right : RightText s) → stepsOf s ≡ right .steps

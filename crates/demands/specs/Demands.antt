@@ -5,7 +5,7 @@
 --   DemandThree   the plan; a batch run call by call, in any order that keeps the plan
 --   EitherOrder   deletes one after another, in any order
 --   Besides       what else the documents say of the calls: deep verdicts, proposed trees, plans, the two readings, the walker, patterns as text,
---                 trees as tags, what stays, the program's two numbers, P1 to P15
+--                 trees as tags there and back, what stays, the program's two numbers, P1 to P15
 --
 -- A call is named by its promise: Read, Delete, Insert, NodeVerdict, DeepVerdict, Checks, Plan and so on, each over what is lent to it before and after.
 -- Told says that an exported function returns the numbers of an answer that meets such a promise. Demands/Names.antt says where each name of this page
@@ -29,9 +29,9 @@ abbrev pub Nothing : Type 0
 Nothing = Unit {0}
 
 -- a text that is not right, and the length of its longest start that some right text has
-pub record WrongText (s : List ℕ) (n : ℕ) : Type 0 where
-  pub wrong : RightText s → ⊥
-  pub longest : Longest s n
+pub record WrongText (Right : List ℕ → Type 0) (s : List ℕ) (n : ℕ) : Type 0 where
+  pub wrong : Right s → ⊥
+  pub longest : Longest Right s n
 
 -- Demand 1: a call is refused exactly where its order of checks gives a refusal, by that one, and then changes no buffer that was lent; else it works
 pub record DemandOne : Type 0 where
@@ -57,12 +57,15 @@ pub record DemandOne : Type 0 where
   pub patterns-in : (l s before after : List ℕ) (a : Answer) → Told ofParsed (ReadText l s before after) a → ByOrder (readTextCheck l s (length before)) a (after ≡ before)
   pub patterns-out : (l p before after : List ℕ) (a : Answer) → Told ofPrinted (WriteText l p before after) a → ByOrder (writeTextCheck l p (length before)) a (after ≡ before)
   pub trees-out : (t before after : List ℕ) (a : Answer) → Told ofPrinted (WriteTree t before after) a → ByOrder (writeTreeCheck t (length before)) a (after ≡ before)
-  -- a list is refused exactly if it is no list of names, by the first entry at which it breaks; a text exactly if it is no right text, by the length of
-  -- its longest start that some right text has
+  pub trees-in : (s before after : List ℕ) (a : Answer) → Told ofParsed (ReadTree s before after) a → ByOrder (readTreeCheck s (length before)) a (after ≡ before)
+  -- a list is refused exactly if it is no list of names, by the first entry at which it breaks; a text of a pattern, and one of a tree, exactly if it is no
+  -- right text, by the length of its longest start that some right text has
   pub lists : (l : List ℕ) → (listCheck l ≡ Fine) ↔ NameList l
   pub lists-place : (l : List ℕ) (k : ℕ) → (listCheck l ≡ refuse 14 8 k) ↔ BreaksAt l k
   pub texts : (s : List ℕ) → (textCheck s ≡ Fine) ↔ RightText s
-  pub texts-place : (s : List ℕ) (n : ℕ) → (textCheck s ≡ refuse 14 7 n) ↔ WrongText s n
+  pub texts-place : (s : List ℕ) (n : ℕ) → (textCheck s ≡ refuse 14 7 n) ↔ WrongText RightText s n
+  pub tags : (s : List ℕ) → (tagsCheck s ≡ Fine) ↔ RightTags s
+  pub tags-place : (s : List ℕ) (n : ℕ) → (tagsCheck s ≡ refuse 14 7 n) ↔ WrongText RightTags s n
   -- printing is refused by 7 alone; else its bytes are fixed, and a refusal that they tell is one of the numbered ones
   pub prints : (s before after : List ℕ) (answer : Printed) (h : PrintedAs s before after answer) →
       ByOrder (outputCheck (length (h .text)) (length before)) (ofPrinted answer) (after ≡ before)
@@ -238,6 +241,22 @@ pub record Besides : Type 0 where
   -- so every witness has a text
   pub witness-text : (r : List ℕ) (u : Update) (before after : List ℕ) (n : ℕ) → NodeVerdict r u before after (verdict.Conflict n) →
       (room text : List ℕ) (answer : Printed) → WriteTree (take (2 * n) after) room text answer → 17 * n ≤ length room + 8 → answer ≡ printed.Bytes (treeBytes (take (2 * n) after))
+  -- trees from tags: what is read is the tree that the text means, in whichever way the text is seen as elements; its nodes are numbered in the order of their
+  -- start tags; it is sound, and no call refuses it as a tree
+  pub read-means : (s words tree : List ℕ) (n : ℕ) → ReadTree s words tree (parsed.Words n) → (right : RightTags s) → take n tree ≡ treeOf (right .root)
+  pub read-in-order : (s words tree : List ℕ) (n : ℕ) → ReadTree s words tree (parsed.Words n) → InOrder (take n tree)
+  pub read-sound : (s words tree : List ℕ) (n : ℕ) → ReadTree s words tree (parsed.Words n) → Sound (bare (take n tree)) × ((table : ℕ) → treeCheck (take n tree) treeLimit table ≡ Fine)
+  -- written again, it gives the same tags with empty pairs shortened, in no more bytes
+  pub read-again : (s words tree : List ℕ) (n : ℕ) → ReadTree s words tree (parsed.Words n) → (right : RightTags s) → (before after : List ℕ) (answer : Printed) →
+      WriteTree (take n tree) before after answer → length s ≤ length before →
+      (answer ≡ printed.Bytes (length (written (shortened (right .root))))) × (take (length (written (shortened (right .root)))) after ≡ written (shortened (right .root)))
+  -- a tree that is written reads back equal up to the numbering, node k as the one whose start tag is the k-th, and equal outright where it was numbered in that
+  -- order; it is not refused where there is room; and trees that are equal up to the numbering have one text
+  pub written-back : (t before text : List ℕ) (n : ℕ) → Bits16 t → WriteTree t before text (printed.Bytes n) → (words tree : List ℕ) (answer : Parsed) →
+      ReadTree (take n text) words tree answer → length t ≤ length words → (answer ≡ parsed.Words (length t)) × Renumbered t (take (length t) tree) (λ k. getD (starts t) k 0)
+  pub written-same : (t before text : List ℕ) (n : ℕ) → Bits16 t → WriteTree t before text (printed.Bytes n) → (words tree : List ℕ) (answer : Parsed) →
+      ReadTree (take n text) words tree answer → length t ≤ length words → InOrder t → take (length t) tree ≡ t
+  pub renumbered-text : (t u : List ℕ) → Sound (bare t) → Sound (bare u) → (old : ℕ → ℕ) → Renumbered t u old → treeText u ≡ treeText t
   -- with no conflict every output word stays, and behind any result all stays: behind a witness, a plan, marks, words and bytes
   pub clear-stays : (r : List ℕ) (u : Update) (before after : List ℕ) → NodeVerdict r u before after verdict.Clear → after ≡ before
   pub witness-behind : (r : List ℕ) (u : Update) (before after : List ℕ) (n : ℕ) → NodeVerdict r u before after (verdict.Conflict n) →
@@ -253,6 +272,7 @@ pub record Besides : Type 0 where
   pub pattern-behind : (l s before after : List ℕ) (n : ℕ) → ReadText l s before after (parsed.Words n) → drop n after ≡ drop n before
   pub text-behind : (l p before after : List ℕ) (n : ℕ) → WriteText l p before after (printed.Bytes n) → drop n after ≡ drop n before
   pub tags-behind : (t before after : List ℕ) (n : ℕ) → WriteTree t before after (printed.Bytes n) → drop n after ≡ drop n before
+  pub tree-behind : (s before after : List ℕ) (n : ℕ) → ReadTree s before after (parsed.Words n) → drop n after ≡ drop n before
   -- the program's two numbers: so many bytes of output are always enough, and behind so many bytes of input nothing changes what is printed
   pub output-enough : (s before after : List ℕ) (why : Refusal) → PrintedAs s before after (printed.Refused why) → printedMost ≤ length before → ⊥
   pub input-enough : (s text : List ℕ) → Prints s text ↔ Prints (take inputMost s) text

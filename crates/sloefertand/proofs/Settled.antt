@@ -29,6 +29,8 @@ use Rattle.text_pattern_in.specs.Reading.{ReadText}
 use Rattle.text_pattern_in.proofs.Promise.{read-one as pattern-one}
 use Rattle.text_pattern_out.specs.Writing.{WriteText}
 use Rattle.text_pattern_out.proofs.Promise.{write-one as text-one}
+use Rattle.text_xml_in.specs.Reading.{ReadTree}
+use Rattle.text_xml_in.proofs.Promise.{read-one as tags-one}
 use Rattle.text_xml_out.specs.Writing.{WriteTree}
 use Rattle.text_xml_out.proofs.Promise.{tree-one}
 use Rattle.text_printer.specs.Printer.{PrintedAs}
@@ -87,6 +89,9 @@ module _ {a b : Answer} (before one two : List ℕ) where
 
   pub tree-told : (t : List ℕ) → Told ofPrinted (WriteTree t before one) a → Told ofPrinted (WriteTree t before two) b → (a ≡ b) × (one ≡ two)
   tree-told t = told-one (λ _. one ≡ two) (tree-one t before one two)
+
+  pub tags-told : (s : List ℕ) → Told ofParsed (ReadTree s before one) a → Told ofParsed (ReadTree s before two) b → (a ≡ b) × (one ≡ two)
+  tags-told s = told-one (λ _. one ≡ two) (tags-one s before one two)
 
   pub printed-told : (s : List ℕ) → Told ofPrinted (PrintedAs s before one) a → Told ofPrinted (PrintedAs s before two) b → (a ≡ b) × (one ≡ two)
   printed-told s = told-one (λ _. one ≡ two) (printed-one s before one two)

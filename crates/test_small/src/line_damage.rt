@@ -5,6 +5,7 @@ use crate::damage::SECOND;
 use crate::damage::THIRD;
 use crate::numbering::front;
 use crate::numbering::front_bytes;
+use crate::put::put;
 use crate::show::number;
 use crate::show::spaced;
 use crate::show::text;
@@ -38,15 +39,6 @@ const PRINTED: usize = 65;
 
 // Where no line has a word.
 const NOWHERE: usize = 16384;
-
-// A byte behind those written, if there is room.
-fn put(out: &mut [u8], at: usize, b: u8) -> usize {
-    if out.len() <= at {
-        return at;
-    }
-    out[at] = b;
-    at + 1
-}
 
 // What stands before a line's digits.
 fn put_front(out: &mut [u8], at: usize, kind: usize) -> usize {

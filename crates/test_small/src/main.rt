@@ -1,6 +1,7 @@
-// Everything small, and some long reads and large trees, over the proved library, by the functions that other languages link: the ten tables that the second program prints too. `stdout` holds what that program printed.
+// Everything small, and some long reads and large trees, over the proved library, by the functions that other languages link: the eleven tables that the second program prints too. `stdout` holds what that program printed.
 mod damage;
 mod damaged_evidence;
+mod deep_tags;
 mod digest;
 mod either_order;
 mod evidence;
@@ -11,10 +12,16 @@ mod numbering;
 mod paired;
 mod pairs;
 mod plans;
+mod put;
+mod read_tags;
 mod rows;
 mod show;
 mod single_bytes;
 mod small_documents;
+mod sums;
+mod tag_bytes;
+mod tag_labels;
+mod tag_texts;
 mod tally;
 mod text_lists;
 mod text_patterns;
@@ -34,4 +41,5 @@ fn main() {
     tree_tags::table();
     line_damage::table();
     evidence::table();
+    read_tags::table();
 }

@@ -5,10 +5,11 @@ use crate::digest::bytes;
 use crate::numbering::front;
 use crate::numbering::words_of;
 use crate::rows;
-use crate::show::eight;
-use crate::show::spaced;
 use crate::show::text;
-use crate::tally::one_more;
+use crate::sums::Sums;
+use crate::sums::counted;
+use crate::sums::no_calls;
+use crate::sums::show_sums;
 use crate::tally::told;
 use crate::tree_tables::damage;
 use crate::tree_tables::drawn;
@@ -40,25 +41,10 @@ const LARGE_ROOM: usize = 4352;
 // Rooms of the tables of small words, from no byte to one more than any needs.
 const ROOMS: usize = 25;
 
-// How many calls there were, how many of them wrote, how many bytes they wrote in all, how many the last one wrote, and the digest.
-struct Sums {
-    calls: usize,
-    written: usize,
-    bytes: usize,
-    last: usize,
-    digest: u64,
-}
-
 // One call more.
 fn called(t: &[u16], out: &mut [u8], s: Sums) -> Sums {
     let a = sloefertand_write_tree(t, out);
-    Sums {
-        calls: one_more(s.calls, true),
-        written: one_more(s.written, a.refusal == 0),
-        bytes: s.bytes % 16777216 + a.first % 65536,
-        last: a.first,
-        digest: bytes(told(s.digest, a), out),
-    }
+    counted(s, a, bytes(told(s.digest, a), out))
 }
 
 // The same with so many bytes.
@@ -130,13 +116,7 @@ fn table_of(part: usize, n: usize, k: usize, s: Sums) -> Sums {
 
 // Every table of a line.
 fn tables(part: usize, n: usize, count: usize) -> Sums {
-    let mut s = Sums {
-        calls: 0,
-        written: 0,
-        bytes: 0,
-        last: 0,
-        digest: 0,
-    };
+    let mut s = no_calls();
     let mut k = 0;
     while k < count {
         s = table_of(part, n, k, s);
@@ -146,14 +126,7 @@ fn tables(part: usize, n: usize, count: usize) -> Sums {
 }
 
 fn line(name: &[u8], part: usize, n: usize, count: usize) {
-    let s = tables(part, n, count);
-    text(name);
-    spaced(n);
-    spaced(s.calls);
-    spaced(s.written);
-    spaced(s.bytes);
-    eight(s.digest);
-    text(b"\n");
+    show_sums(name, n, tables(part, n, count));
 }
 
 // A tree's line: all of the buffer, and the answer.

@@ -20,6 +20,7 @@ use sloefertand::patterns::sloefertand_write_pattern;
 use sloefertand::texts::sloefertand_print;
 use sloefertand::texts::sloefertand_read_line;
 use sloefertand::texts::sloefertand_write_line;
+use sloefertand::trees::sloefertand_read_tree;
 use sloefertand::trees::sloefertand_write_tree;
 use sloefertand::verdicts::sloefertand_deep_delete_verdict;
 use sloefertand::verdicts::sloefertand_deep_insert_verdict;
@@ -147,8 +148,12 @@ pub(crate) fn pattern(name: &[u8], l: &[u8], r: &[u16], t: &mut [u16], m: &[u8],
     }
 }
 
-// A tree as tags, and the printed plan: where a tree is written, and for every plan, the bytes as they stand on lines of their own.
-pub(crate) fn print(name: &[u8], x: &[u16], m: &[u8], y: &mut [u8]) {
+// Trees as tags, there and back: where one is written, its bytes as they stand on lines of their own.
+pub(crate) fn tree(name: &[u8], x: &[u16], t: &mut [u16], m: &[u8], y: &mut [u8]) {
+    if same(name, b"read tree") {
+        answer(sloefertand_read_tree(m, t), 1);
+        return;
+    }
     if same(name, b"write tree") {
         let a = sloefertand_write_tree(x, y);
         answer(a, 1);
@@ -157,8 +162,11 @@ pub(crate) fn print(name: &[u8], x: &[u16], m: &[u8], y: &mut [u8]) {
         }
         text(b"\n");
         text(front(y, a.first));
-        return;
     }
+}
+
+// The printed plan: for every one, its bytes as they stand on lines of their own.
+pub(crate) fn print(name: &[u8], m: &[u8], y: &mut [u8]) {
     if same(name, b"print") {
         let a = sloefertand_print(m, y);
         answer(a, 1);

@@ -10,10 +10,10 @@ ghost use mathlib.Core.Path.{_≡_};
 ghost use lib.ListN.{length};
 
 // Room for the script.
-fn input_room() -> [u8; 65536]
-    ensures { λ r. ⌜ length r ≡ 65536 ⌝ }
+fn input_room() -> [u8; 131072]
+    ensures { λ r. ⌜ length r ≡ 131072 ⌝ }
 {
-    [0; 65536]
+    [0; 131072]
 }
 
 fn main() {

@@ -161,7 +161,24 @@ fn ask(
     calls::plan(name, x, t, u, v);
 }
 
-// A line, a pattern's or a tree's text, a printed plan or an update; the number u after it.
+// A line, a pattern's or a tree's text, or a printed plan.
+fn spell(
+    name: &[u8],
+    r: &[u16],
+    x: &[u16],
+    t: &mut [u16],
+    l: &[u8],
+    m: &[u8],
+    y: &mut [u8],
+    u: usize,
+) {
+    calls::spell(name, x, t, m, u, y);
+    calls::pattern(name, l, r, t, m, y);
+    calls::tree(name, x, t, m, y);
+    calls::print(name, m, y);
+}
+
+// One of these or an update; the number u after it.
 fn tell(
     name: &[u8],
     r: &[u16],
@@ -173,9 +190,7 @@ fn tell(
     y: &mut [u8],
     u: usize,
 ) -> usize {
-    calls::spell(name, x, t, m, u, y);
-    calls::pattern(name, l, r, t, m, y);
-    calls::print(name, x, m, y);
+    spell(name, r, x, t, l, m, y, u);
     calls::delete(name, p, t, m, u);
     calls::insert(name, p, x, t, m, u)
 }

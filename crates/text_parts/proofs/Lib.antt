@@ -1,3 +1,4 @@
 -- Laws of parts of a text.
 pub mod Finding
 pub mod Cutting
+pub mod Starts

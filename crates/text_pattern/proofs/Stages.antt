@@ -6,27 +6,28 @@ use mathlib.Core.List.{List, [], _∷_, _++_}
 use native.Mathlib.Omega.{arith}
 use borrow.Author.Tests.{ne-eqb}
 use Rattle.selection.proofs.Runs.{both}
+use Rattle.text_parts.specs.Scans.{scanned}
+use Rattle.text_parts.proofs.Starts.{scanned-append}
 use Rattle.text_names.specs.Letters.{starts, goes, allGo}
 use Rattle.text_names.proofs.Naming.{starts-goes}
 use Rattle.text_pattern.specs.Texts.{Step, slash}
-use Rattle.text_pattern.specs.Scan.{kindOf, nextOf, after, ends, rightText}
+use Rattle.text_pattern.specs.Scan.{kindOf, nextOf, byteOn, after, ends, rightText}
 use Rattle.text_pattern.proofs.Bytes.{clash, slash-stops, star-stops, Kind, a-slash, a-star, a-start, a-letter, another, kind, Word, a-wildcard, a-name}
 use Rattle.text_pattern.proofs.Spelled.{Later, no-step, child, descendant, Whole, first}
 
 -- the scan of two texts, one behind the other
 pub after-append : (q : ℕ) (a b : List ℕ) → after q (a ++ b) ≡ after (after q a) b
 unfolding after
-after-append q [] b = refl
-after-append q (c ∷ a) b = after-append (nextOf q (kindOf c)) a b
+after-append = scanned-append byteOn
 
 -- no byte leads back
-next-lost : (q k : ℕ) → 5 ≤ q → nextOf q k ≡ 5
+pub next-lost : (q k : ℕ) → 5 ≤ q → nextOf q k ≡ 5
 unfolding nextOf
 next-lost q k h =
     rw (ne-eqb q 0 (λ e. omega arith), ne-eqb q 1 (λ e. omega arith), ne-eqb q 2 (λ e. omega arith), ne-eqb q 3 (λ e. omega arith), ne-eqb q 4 (λ e. omega arith))
 
 pub lost : (q : ℕ) (t : List ℕ) → 5 ≤ q → ends (after q t) ≡ false
-unfolding after ends
+unfolding after ends scanned byteOn
 lost q [] h = rw (ne-eqb q 2 (λ e. omega arith), ne-eqb q 3 (λ e. omega arith))
 lost q (c ∷ t) h = rw (next-lost q (kindOf c) h) (lost 5 t (omega arith))
 
@@ -55,7 +56,7 @@ goes-at (another g) h = clash g h
 
 -- one byte on
 on : (q : ℕ) {r : ℕ} (c : ℕ) (t : List ℕ) → nextOf q (kindOf c) ≡ r → after q (c ∷ t) ≡ after r t
-unfolding after
+unfolding after scanned byteOn
 on q c t e = ap (λ x. after x t) e
 
 after-letters : (v t : List ℕ) → allGo v ≡ true → after 3 (v ++ t) ≡ after 3 t
@@ -79,28 +80,28 @@ record Ended (t : List ℕ) : Type 0 where
 
 -- then it may end with a word and t, where a word may stand
 word-ends-1 : {w t : List ℕ} → Word w → Ended t → ends (after 1 (w ++ t)) ≡ true
-unfolding after nextOf kindOf
+unfolding after nextOf kindOf scanned byteOn
 word-ends-1 a-wildcard e = e .star-first
 word-ends-1 {t} (a-name {c} {v} h k) e = ap ends (on 1 c (v ++ t) (starts-from-1 c h) ∙ after-letters v t k) ∙ e .name-first
 
 word-ends-4 : {w t : List ℕ} → Word w → Ended t → ends (after 4 (w ++ t)) ≡ true
-unfolding after nextOf kindOf
+unfolding after nextOf kindOf scanned byteOn
 word-ends-4 a-wildcard e = e .star-first
 word-ends-4 {t} (a-name {c} {v} h k) e = ap ends (on 4 c (v ++ t) (starts-from-4 c h) ∙ after-letters v t k) ∙ e .name-first
 
 slash-ended : (t : List ℕ) → ends (after 4 t) ≡ true → Ended (slash ∷ t)
-unfolding after nextOf kindOf
+unfolding after nextOf kindOf scanned byteOn
 slash-ended t e = record { star-first = e; name-first = e }
 
 later-ended : {xs : List Step} {t : List ℕ} → Later xs t → Ended t
-unfolding after nextOf kindOf ends
+unfolding after nextOf kindOf ends scanned byteOn
 later-ended no-step = record { star-first = refl; name-first = refl }
 later-ended (child {w} {t} h l) = slash-ended (w ++ t) (word-ends-4 h (later-ended l))
 later-ended (descendant {w} {t} h l) = slash-ended (slash ∷ (w ++ t)) (word-ends-1 h (later-ended l))
 
 -- the scan of right steps' text ends
 pub whole-ends : {xs : List Step} {s : List ℕ} → Whole xs s → rightText s ≡ true
-unfolding rightText after nextOf kindOf
+unfolding rightText after nextOf kindOf scanned byteOn
 whole-ends (first h l) = word-ends-1 h (later-ended l)
 
 -- the other way: what is left of a right text, by its stage
@@ -177,7 +178,7 @@ module _ (t : List ℕ) (r : Reads t) where
   reads-4 (another h) e = lost-ends 5 t (omega arith) e
 
 pub reads : (t : List ℕ) → Reads t
-unfolding after ends allGo
+unfolding after ends allGo scanned byteOn
 reads [] =
     record {
       from-1 = λ e. absurd (false≢true e);

@@ -1,8 +1,9 @@
 -- Inside: whether a text is right, and its longest start that some right text has, from one byte to the next. proofs/Scanning.antt holds this against RightText and Longest.
-use Prim.Native.Nat.{ℕ, suc}
+use Prim.Native.Nat.{ℕ}
 use mathlib.Core.Bool.{Bool, _||_, cond}
-use mathlib.Core.List.{List, [], _∷_}
+use mathlib.Core.List.{List}
 use lib.Dec.{eqb, ltb}
+use Rattle.text_parts.specs.Scans.{scanned, lasting}
 use Rattle.text_names.specs.Letters.{starts, goes}
 use Rattle.text_pattern.specs.Texts.{slash}
 
@@ -20,10 +21,17 @@ nextOf q k =
     (cond (eqb q 3) (cond (eqb k 1) 4 (cond (eqb k 3 || eqb k 4) 3 5))
     (cond (eqb q 4) (cond (eqb k 1) 1 (cond (eqb k 2) 2 (cond (eqb k 3) 3 5))) 5))))
 
+-- where it stands behind one byte more
+unfoldable pub byteOn : ℕ → ℕ → ℕ
+byteOn q c = nextOf q (kindOf c)
+
 -- where it stands behind s
 unfoldable pub after : ℕ → List ℕ → ℕ
-after q [] = q
-after q (c ∷ s) = after (nextOf q (kindOf c)) s
+after q s = scanned byteOn q s
+
+-- some right text begins so
+unfoldable pub on : ℕ → Bool
+on q = ltb q 5
 
 -- a right text may end here
 unfoldable pub ends : ℕ → Bool
@@ -31,8 +39,7 @@ ends q = eqb q 2 || eqb q 3
 
 -- how many bytes of s go on with some right text
 unfoldable pub lasts : ℕ → List ℕ → ℕ
-lasts q [] = 0
-lasts q (c ∷ s) = cond (ltb (nextOf q (kindOf c)) 5) (suc (lasts (nextOf q (kindOf c)) s)) 0
+lasts q s = lasting byteOn on q s
 
 -- s is a right text
 unfoldable pub rightText : List ℕ → Bool

@@ -1,11 +1,10 @@
 -- Patterns as text, in XPath 1.0 abbreviated form: `/` and a first step, then steps after `/` or `//`; a step is `*` or a name without a colon.
 -- This is about the form alone: neither a list of names nor the limit of steps enters.
-use Prim.Native.Nat.{ℕ, suc, _≤_, _<_}
+use Prim.Native.Nat.{ℕ}
 use mathlib.Core.Path.{_≡_}
 use mathlib.Core.Bool.{Bool, true, false, _&&_, _||_, cond}
 use mathlib.Core.List.{List, [], _∷_, _++_}
 use lib.Dec.{eqb}
-use lib.ListN.{length, take}
 use Rattle.text_names.specs.Letters.{name}
 use Rattle.text_names.specs.Names.{same}
 
@@ -51,14 +50,3 @@ pub record RightText (s : List ℕ) : Type 0 where
   pub steps : List Step
   pub right : stepsRight steps ≡ true
   pub spelled : s ≡ spell steps
-
--- some right text begins with s
-pub record Begins (s : List ℕ) : Type 0 where
-  pub rest : List ℕ
-  pub right : RightText (s ++ rest)
-
--- n is the length of the longest start of s that some right text has: some right text begins so, and none begins with one byte more of it
-pub record Longest (s : List ℕ) (n : ℕ) : Type 0 where
-  pub within : n ≤ length s
-  pub begins : Begins (take n s)
-  pub no-more : n < length s → Begins (take (suc n) s) → ⊥

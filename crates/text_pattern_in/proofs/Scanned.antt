@@ -12,7 +12,8 @@ use borrow.Author.Tests.{lt-ltb, le-ltb}
 use Rattle.tables.specs.Checks.{refuse}
 use Rattle.tables.specs.declared.refusal.Checked.{Checked}
 use Rattle.tables.specs.declared.refusal.Checked.the-variants.{Fine}
-use Rattle.text_pattern.specs.Scan.{kindOf, nextOf, after, ends, lasts, rightText, longest}
+use Rattle.text_parts.specs.Scans.{scanned, lasting}
+use Rattle.text_pattern.specs.Scan.{kindOf, nextOf, byteOn, after, on, ends, lasts, rightText, longest}
 use Rattle.text_pattern.specs.Meaning.{textCheck}
 use Rattle.text_pattern.proofs.Stages.{lost}
 
@@ -23,11 +24,11 @@ scan-start s = omega arith
 module _ (s : List ℕ) (q i : ℕ) (stands : after 0 s ≡ after q (drop i s)) (long : longest s ≡ i + lasts q (drop i s)) where
   module _ (h : i < length s) {k : ℕ} (kind : k ≡ kindOf (getD s i 0)) {r : ℕ} (is : r ≡ nextOf q k) where
     moved : after 0 s ≡ after r (drop (suc i) s)
-    unfolding after
+    unfolding after scanned byteOn
     moved = stands ∙ rw (drop-cons s i 0 h, is, kind)
 
     left : longest s ≡ i + cond (ltb r 5) (suc (lasts r (drop (suc i) s))) 0
-    unfolding lasts
+    unfolding lasts lasting byteOn on
     left = long ∙ rw (drop-cons s i 0 h, is, kind)
 
     pub scan-on : r ≤ 4 → (after 0 s ≡ after r (drop (i + 1) s)) × (longest s ≡ i + 1 + lasts r (drop (i + 1) s))
@@ -47,7 +48,7 @@ module _ (s : List ℕ) (q i : ℕ) (stands : after 0 s ≡ after q (drop i s)) 
 
   module _ (h : length s ≤ i) where
     at-end : after 0 s ≡ q
-    unfolding after
+    unfolding after scanned
     at-end = stands ∙ rw (drop-of-length-le s {i = i} h)
 
     module _ {b : Bool} (is : b ≡ ends q) where
@@ -56,7 +57,7 @@ module _ (s : List ℕ) (q i : ℕ) (stands : after 0 s ≡ after q (drop i s)) 
       scan-end e = rw (at-end, ← is, e)
 
       pub scan-short : i ≤ length s → b ≡ false → {answer : Checked} → answer ≡ refuse 14 7 (length s) → answer ≡ textCheck s
-      unfolding textCheck rightText lasts
+      unfolding textCheck rightText lasts lasting
       scan-short k e a =
           let none : drop i s ≡ [] = drop-of-length-le s {i = i} h in
           let more : longest s ≡ i + 0 = long ∙ rw none in

@@ -28,7 +28,7 @@ unfolding sumTo
 sum-plus f g zero = refl
 sum-plus f g (suc n) = rw (sum-plus f g n) (omega arith)
 
-sum-same : (f : ℕ → ℕ) (k n : ℕ) → ((i : ℕ) → i < n → f i ≡ k) → sumTo f n ≡ k * n
+pub sum-same : (f : ℕ → ℕ) (k n : ℕ) → ((i : ℕ) → i < n → f i ≡ k) → sumTo f n ≡ k * n
 unfolding sumTo
 sum-same f k zero same = omega arith
 sum-same f k (suc n) same = omega (arith, sum-same f k n (λ i h. same i (omega arith)), same n (omega arith))
@@ -66,7 +66,7 @@ sum-first f zero h = absurd (omega arith)
 sum-first f (suc zero) h = omega arith
 sum-first f (suc (suc n)) h = rw (sum-first f (suc n) (omega arith), lt-ltb 0 (suc n) (omega arith)) (omega arith)
 
-length-turn : (text : ℕ → List ℕ) (p : ℕ → Bool) (n : ℕ) → length (inTurn text (rising p n)) ≡ sumTo (λ c. cond (p c) (length (text c)) 0) n
+pub length-turn : (text : ℕ → List ℕ) (p : ℕ → Bool) (n : ℕ) → length (inTurn text (rising p n)) ≡ sumTo (λ c. cond (p c) (length (text c)) 0) n
 unfolding inTurn rising sumTo
 length-turn text p zero = refl
 length-turn text p (suc n) = go (p n) (length-turn text p n)
@@ -110,41 +110,46 @@ children-some : (t : List ℕ) (v c : ℕ) → c < nodes t → childOf t v c ≡
 unfolding children
 children-some t v c h is = rw (length-rising (childOf t v) (nodes t)) (omega (arith, count-holds (childOf t v) c (nodes t) h is))
 
--- what v takes by itself, what it takes with what is below it, and what c takes in v
+-- what v takes by itself, what it takes with what is below it, and what c takes in v where each takes so much
 abbrev own : List ℕ → ℕ → ℕ
 own t v = ownBytes (tag t v) (children t v)
 
 abbrev whole : List ℕ → ℕ → ℕ
 whole t v = length (tagsOf t v)
 
-abbrev share : List ℕ → ℕ → ℕ → ℕ
-share t v c = cond (childOf t v c) (whole t c) 0
+abbrev pub share : List ℕ → (ℕ → ℕ) → ℕ → ℕ → ℕ
+share t total v c = cond (childOf t v c) (total c) 0
 
 module _ (t : List ℕ) (sound : Sound (bare t)) where
-  some-node : 0 < nodes t
+  pub some-node : 0 < nodes t
   some-node = present-used (bare t) 0 (sound .root)
 
-  node-bytes : (v : ℕ) → v < nodes t → whole t v ≡ own t v + sumTo (share t v) (nodes t)
+  -- where each node takes something by itself and what its children take, the root takes what all nodes take by themselves
+  module _ (alone total : ℕ → ℕ) (each : (v : ℕ) → v < nodes t → total v ≡ alone v + sumTo (share t total v) (nodes t)) where
+    -- every node but the root stands in one node
+    share-all : (c : ℕ) → c < nodes t → sumTo (λ v. share t total v c) (nodes t) ≡ cond (ltb 0 c) (total c) 0
+    unfolding childOf
+    share-all c h = go (ltb 0 c) refl
+      where
+        go : (b : Bool) → ltb 0 c ≡ b → sumTo (λ v. cond (b && eqb (parent t c) v) (total c) 0) (nodes t) ≡ cond b (total c) 0
+        go true e = sum-one (parent t c) (total c) (nodes t) (omega (arith, sound .parents c (ltb-true 0 c e) h))
+        go false e = sum-none (λ v. 0) (nodes t) (λ i l. refl)
+
+    -- so all that the nodes take is what they take by themselves, and all that the nodes but the root take
+    pub root-takes : total 0 ≡ sumTo alone (nodes t)
+    root-takes =
+        let all = sum-ext total (λ v. alone v + sumTo (share t total v) (nodes t)) (nodes t) each ∙ sum-plus alone (λ v. sumTo (share t total v) (nodes t)) (nodes t) in
+        let under = sum-swap (share t total) (nodes t) (nodes t) ∙ sum-ext (λ c. sumTo (λ v. share t total v c) (nodes t)) (λ c. cond (ltb 0 c) (total c) 0) (nodes t) share-all in
+        omega (arith, sum-first total (nodes t) some-node)
+
+  node-bytes : (v : ℕ) → v < nodes t → whole t v ≡ own t v + sumTo (share t (whole t) v) (nodes t)
   unfolding children
   node-bytes v h =
       rw (each-same-way t (sound .parents) v h, length-element (tag t v) (tagsOf t) (children t v), length-turn (tagsOf t) (childOf t v) (nodes t))
 
-  -- every node but the root stands in one node
-  share-all : (c : ℕ) → c < nodes t → sumTo (λ v. share t v c) (nodes t) ≡ cond (ltb 0 c) (whole t c) 0
-  unfolding childOf
-  share-all c h = go (ltb 0 c) refl
-    where
-      go : (b : Bool) → ltb 0 c ≡ b → sumTo (λ v. cond (b && eqb (parent t c) v) (whole t c) 0) (nodes t) ≡ cond b (whole t c) 0
-      go true e = sum-one (parent t c) (whole t c) (nodes t) (omega (arith, sound .parents c (ltb-true 0 c e) h))
-      go false e = sum-none (λ v. 0) (nodes t) (λ i l. refl)
-
-  -- so all that the nodes take is their own bytes, and all that the nodes but the root take
   pub tree-bytes : length (treeText t) ≡ treeBytes t
   unfolding treeText treeBytes
-  tree-bytes =
-      let each = sum-ext (whole t) (λ v. own t v + sumTo (share t v) (nodes t)) (nodes t) node-bytes ∙ sum-plus (own t) (λ v. sumTo (share t v) (nodes t)) (nodes t) in
-      let under = sum-swap (share t) (nodes t) (nodes t) ∙ sum-ext (λ c. sumTo (λ v. share t v c) (nodes t)) (λ c. cond (ltb 0 c) (whole t c) 0) (nodes t) share-all in
-      omega (arith, sum-first (whole t) (nodes t) some-node)
+  tree-bytes = root-takes (own t) (whole t) node-bytes
 
   -- a child has a greater number, so the last node has none
   last-alone : (v : ℕ) → nodes t ≡ suc v → children t v ≡ []

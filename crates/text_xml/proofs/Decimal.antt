@@ -43,7 +43,7 @@ module _ (P : ℕ → List ℕ → Type 0) (small : (n : ℕ) → n < 10 → P n
       go (yes s) tenth = rw (decimal-small n s) (small n s)
       go (no s) tenth = let s : 10 ≤ n = omega arith in rw (decimal-more n s) (more n (decimal (n / 10)) s (tenth s))
 
-  by-digits : (n : ℕ) → P n (decimal n)
+  pub by-digits : (n : ℕ) → P n (decimal n)
   by-digits n = by-digits-in (suc n) n (omega arith)
 
 -- how many digits there are

@@ -74,16 +74,20 @@ pub use Rattle.text_line_out.specs.Spelling.{WrittenAs}
 pub use Rattle.outcomes.specs.declared.texts.Spelled.the-variants as spelled
 -- patterns as text: ReadText is promised by read_pattern, WriteText by write_pattern
 pub use Rattle.text_names.specs.Names.{NameList, BreaksAt, lines, listCheck}
-pub use Rattle.text_pattern.specs.Texts.{RightText, Longest}
+pub use Rattle.text_parts.specs.Starts.{Longest}
+pub use Rattle.text_pattern.specs.Texts.{RightText}
 pub use Rattle.text_pattern.specs.Meaning.{stepsOf, textCheck}
 pub use Rattle.text_pattern_in.specs.Reading.{readTextCheck, ReadText}
 pub use Rattle.text_pattern_out.specs.Writing.{writeTextCheck, WriteText}
 pub use Rattle.outcomes.specs.declared.texts.Parsed.{Parsed}
--- trees as tags: WriteTree is promised by write_tree
+-- trees as tags: WriteTree is promised by write_tree, ReadTree by read_tree
 pub use Rattle.selection.specs.Embeddings.{Child}
 pub use Rattle.text_xml.specs.Decimal.{decimal, Decimal}
 pub use Rattle.text_xml.specs.Tags.{childOf, children, elementOf, tagsOf, treeText, treeBytes}
 pub use Rattle.text_xml_out.specs.Writing.{writeTreeCheck, WriteTree}
+pub use Rattle.text_xml_form.specs.Elements.{written, RightTags, treeOf, shortened}
+pub use Rattle.text_xml_form.specs.Numbering.{starts, InOrder, Renumbered}
+pub use Rattle.text_xml_in.specs.Reading.{tagsCheck, readTreeCheck, ReadTree}
 -- the printer: PrintedAs is promised by print
 pub use Rattle.text_printer.specs.Printer.{takeCheck, Lines, stopped, offsetIn, Prints, PrintedAs}
 pub use Rattle.text_printer.specs.Faults.{LineFault}

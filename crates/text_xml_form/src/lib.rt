@@ -1,0 +1,1 @@
+// Tags that are read, as definitions (specs/) and laws (proofs/). There is no code here: the crates above cite both.
