@@ -25,8 +25,9 @@ unfolding rowsIn size
 length-rows v n none = refl
 length-rows v n (short l more) = omega (arith, length-rows v (suc n) more)
 length-rows v n (pair l inside more) =
-    rw (length-append (rowsIn n (suc n) inside) (rowsIn v (suc n + size inside) more))
-    (omega (arith, length-rows n (suc n) inside, length-rows v (suc n + size inside) more))
+    let inner : (v n : ℕ) → length (rowsIn v n inside) ≡ 2 * size inside = λ v n. length-rows v n inside in
+    let behind : (v n : ℕ) → length (rowsIn v n more) ≡ 2 * size more = λ v n. length-rows v n more in
+    rw (length-append, inner, behind) (omega arith)
 
 -- a digit adds to the number alone
 rows-digit : (q v w d u : ℕ) (rows s : List ℕ) → d < 10 → further v (48 + d) ≡ w → rowsFrom q v u rows ((48 + d) ∷ s) ≡ rowsFrom q w u rows s
