@@ -1,7 +1,6 @@
 -- Trees from tags: which texts are right, what is read of one, and a tree written and read back.
-use Prim.Native.Nat.{ℕ, _*_, _<_, _≤_}
+use Prim.Native.Nat.{ℕ, _*_, _≤_}
 use mathlib.Core.Path.{_≡_, refl, sym, ap, _∙_}
-use mathlib.Core.Bool.{true}
 use mathlib.Core.List.{List}
 use mathlib.Core.Logic.{_↔_}
 use native.Mathlib.Omega.{arith}
@@ -12,7 +11,7 @@ use borrow.Author.Tests.{leb-true, le-leb}
 use Rattle.tables.specs.Limits.{treeLimit}
 use Rattle.tables.specs.Words.{nodes, Bits16}
 use Rattle.tables.specs.Documents.{bare, Sound}
-use Rattle.tables.specs.Checks.{_then_, test, refuse, treeCheck, outputCheck}
+use Rattle.tables.specs.Checks.{test, refuse, treeCheck, outputCheck}
 use Rattle.tables.specs.declared.refusal.Checked.the-variants.{Fine}
 use Rattle.tables.proofs.Accepted.{never, held, then-first, then-second}
 use Rattle.tables.proofs.Soundness.{accepted-tree, accepted-nodes, accepted-whole, tree-fine}

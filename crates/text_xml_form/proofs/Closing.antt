@@ -2,15 +2,14 @@
 use Prim.Native.Nat.{ℕ, _<_}
 use mathlib.Core.Path.{_≡_, refl, sym, ap, _∙_}
 use mathlib.Core.Bool.{true, false≢true}
-use mathlib.Core.List.{List, [], _∷_, _++_, append-assoc, append-nil}
+use mathlib.Core.List.{List, [], _∷_, _++_, append-assoc}
 use native.Mathlib.Omega.{arith}
-use lib.Dec.{ltb}
 use Rattle.text_parts.specs.Starts.{Begins}
 use Rattle.text_parts.proofs.Starts.{begins-front}
 use Rattle.tables.specs.Limits.{wordLimit}
 use Rattle.text_xml.specs.Decimal.{decimal}
-use Rattle.text_xml.specs.Tags.{elementName, shortTag, startTag, endTag}
-use Rattle.text_xml_form.specs.Elements.{Elements, none, short, pair, written, labelRight, RightTags}
+use Rattle.text_xml.specs.Tags.{elementName, shortTag, endTag}
+use Rattle.text_xml_form.specs.Elements.{none, short, pair, labelRight, RightTags}
 use Rattle.text_xml_form.specs.Scan.{stand, leads, on}
 use Rattle.text_xml_form.proofs.Names.{to-label, Name, no-digit, digits, leads-rest}
 use Rattle.text_xml_form.proofs.Opened.{Open, outside, within, short-one, pair-one, short-written, pair-written, closed}

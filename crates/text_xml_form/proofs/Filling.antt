@@ -1,11 +1,11 @@
 -- The rows that are filled in from one byte to the next are those of the tree; and how many there are.
-use Prim.Native.Nat.{ℕ, suc, _+_, _-_, _*_, _/_, _%_, _<_}
+use Prim.Native.Nat.{ℕ, suc, _+_, _*_, _/_, _%_, _<_}
 use mathlib.Core.Path.{_≡_, refl, sym, ap, _∙_}
 use mathlib.Core.Bool.{Bool, true, false, cond}
 use mathlib.Core.List.{List, [], _∷_, _++_, append-assoc, append-nil}
 use native.Mathlib.Omega.{arith}
 use lib.Dec.{eqb}
-use lib.ListN.{length, getD, length-append}
+use lib.ListN.{length, length-append}
 use lib.Seq.{getD-at}
 use borrow.Author.Tests.{ne-eqb}
 use Rattle.tables.specs.Words.{nodes, parent}
@@ -15,7 +15,7 @@ use Rattle.text_xml.proofs.Decimal.{by-digits}
 use Rattle.text_xml_form.specs.Elements.{Elements, none, short, pair, written, size, rowsIn, treeOf}
 use Rattle.text_xml_form.specs.Scan.{isDigit, further, stageOn, numberOn}
 use Rattle.text_xml_form.specs.Rows.{hasRow, rowOn, nodeOn, rowsFrom, rowsOf, slashes}
-use Rattle.text_xml_form.proofs.Names.{of-digit, to-digit, further-last, further-first}
+use Rattle.text_xml_form.proofs.Names.{to-digit, further-last, further-first}
 use Rattle.text_xml_form.proofs.Steps.{digit-stage, digit-number}
 use Rattle.text_xml_form.proofs.Passing.{lastOf}
 

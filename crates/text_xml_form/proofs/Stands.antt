@@ -1,5 +1,5 @@
 -- Where the scan stands tells what has been read: one law a stage, from one byte to the next.
-use Prim.Native.Nat.{ℕ, zero, suc, _+_, _<_, _≤_}
+use Prim.Native.Nat.{ℕ, suc, _<_}
 use mathlib.Core.Path.{_≡_, refl, sym, ap, _∙_}
 use mathlib.Core.Bool.{Bool, true, false, _&&_, _||_, cond, false≢true}
 use mathlib.Core.List.{List, [], _∷_, _++_, append-assoc, append-nil}
@@ -15,7 +15,7 @@ use Rattle.text_xml.specs.Decimal.{decimal}
 use Rattle.text_xml.specs.Tags.{elementName, shortTag, startTag, endTag}
 use Rattle.text_xml_form.specs.Elements.{Elements, none, short, pair, written, labelRight, labelsRight}
 use Rattle.text_xml_form.specs.Scan.{Stand, stand, isDigit, further, leads, goesOn, endsOn, fits, stageOn, numberOn, openOn, goes, lost, next, standing}
-use Rattle.text_xml_form.proofs.Names.{of-label, to-label, leads-some, Name, no-digit, digits, name-further, name-some}
+use Rattle.text_xml_form.proofs.Names.{of-label, to-label, leads-some, Name, no-digit, name-further, name-some}
 use Rattle.text_xml_form.proofs.Steps.{digit-stage, digit-number, digit-open}
 use Rattle.text_xml_form.proofs.Opened.{behind, behind-right, Open, outside, within, One, short-one, pair-one, short-written, pair-written, inside-written}
 

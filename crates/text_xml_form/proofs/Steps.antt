@@ -1,10 +1,9 @@
 -- The scan of a right text, one byte after the other and one tag after the other, and that a lost text stays lost.
 use Prim.Native.Nat.{ℕ, suc, _+_, _/_, _%_, _<_, _≤_}
-use mathlib.Core.Path.{_≡_, refl, sym, ap, _∙_}
-use mathlib.Core.Bool.{Bool, true, false, cond}
+use mathlib.Core.Path.{_≡_, refl, ap, _∙_}
+use mathlib.Core.Bool.{true, false}
 use mathlib.Core.List.{List, [], _∷_, _++_}
 use native.Mathlib.Omega.{arith}
-use lib.Dec.{eqb, ltb}
 use lib.ListN.{length, getD}
 use borrow.Author.Tests.{ne-eqb, lt-ltb, eq-eqb, ltb-false}
 use Rattle.tables.specs.Limits.{wordLimit}
@@ -14,7 +13,7 @@ use Rattle.text_xml.specs.Decimal.{decimal}
 use Rattle.text_xml.specs.Tags.{elementName, shortTag, startTag, endTag}
 use Rattle.text_xml.proofs.Decimal.{by-digits}
 use Rattle.text_xml_form.specs.Elements.{labelRight}
-use Rattle.text_xml_form.specs.Scan.{Stand, stand, isDigit, further, leads, goesOn, endsOn, fits, stageOn, numberOn, outer, openOn, lost, goes, next, on}
+use Rattle.text_xml_form.specs.Scan.{Stand, stand, isDigit, further, leads, goesOn, endsOn, fits, stageOn, numberOn, openOn, goes, next, on}
 use Rattle.text_xml_form.proofs.Names.{of-label, of-digit, to-digit, further-last, further-first, tenth-leads, leads-own}
 
 -- a byte that goes on

@@ -6,10 +6,9 @@ use native.Mathlib.Omega.{arith}
 use mathlib.Core.List.{List}
 use lib.Dec.{eqb, ltb, leb}
 use lib.ListN.{getD, set}
-use borrow.Author.Tests.{leb-true, lt-ltb, le-ltb, le-leb, lt-leb, eq-eqb, ne-eqb}
+use borrow.Author.Tests.{lt-ltb, le-ltb, le-leb, lt-leb, eq-eqb, ne-eqb}
 use Rattle.tables.specs.Limits.{wordLimit}
 use Rattle.tables.specs.Words.{parent}
-use Rattle.selection.proofs.Runs.{both}
 use Rattle.text_xml_form.specs.Elements.{labelRight}
 use Rattle.text_xml_form.specs.Scan.{isDigit, further, leads, goesOn, endsOn, fits, stageOn, numberOn, depthOn}
 use Rattle.text_xml_form.specs.Rows.{hasRow}
@@ -24,10 +23,6 @@ digit-low c h = rw (lt-leb 48 c h)
 pub digit-high : (c : ℕ) → 48 ≤ c → leb c 57 ≡ isDigit c
 unfolding isDigit
 digit-high c h = rw (le-leb 48 c h)
-
-pub digit-bounds : (c : ℕ) → isDigit c ≡ true → (48 ≤ c) × (c ≤ 57)
-unfolding isDigit
-digit-bounds c e = both (leb 48 c) (leb c 57) e (λ a b. (leb-true 48 c a, leb-true c 57 b))
 
 -- a label
 pub label-large : (w : ℕ) → wordLimit ≤ w → false ≡ labelRight w

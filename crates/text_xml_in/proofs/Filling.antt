@@ -1,19 +1,19 @@
 -- The rows of a right text, as far as they are put into a table.
 use Prim.Native.Nat.{ℕ, suc, _+_, _-_, _*_, _<_, _≤_}
 use mathlib.Core.Path.{_≡_, refl, sym, ap, _∙_}
-use mathlib.Core.Bool.{Bool, true, false, _&&_, _||_, cond, false≢true}
+use mathlib.Core.Bool.{Bool, true, false, _&&_, _||_, cond}
 use mathlib.Core.List.{List, [], _∷_, _++_, append-assoc, append-nil}
 use native.Mathlib.Decide.{decLt}
 use native.Mathlib.Nat.{le-trans}
 use native.Mathlib.Numerals.{add-one}
 use native.Mathlib.Omega.{arith}
 use lib.Dec.{eqb, ltb}
-use lib.ListN.{length, getD, set, take, drop, length-append, length-drop, take-append-drop, drop-of-length-le, List·getD-append, List·getD-eq-default}
+use lib.ListN.{length, getD, set, take, drop, length-append, length-drop, drop-of-length-le, List·getD-append, List·getD-eq-default}
 use lib.Seq.{take-length, drop-cons, append-snoc, set-at, getD-at}
 use borrow.Author.Tests.{eqb-true, ltb-true}
 use Rattle.tables.specs.Words.{nodes, parent}
 use Rattle.selection.proofs.Runs.{both}
-use Rattle.text_xml_form.specs.Scan.{isDigit, endsOn, fits, stageOn, numberOn, depthOn, goes, on, standing, rightTags}
+use Rattle.text_xml_form.specs.Scan.{isDigit, endsOn, fits, stageOn, numberOn, depthOn, goes, standing, rightTags}
 use Rattle.text_xml_form.specs.Rows.{hasRow, rowOn, nodeOn, rowsFrom, rowsOf}
 use Rattle.text_xml_form.proofs.Scanning.{scan-right, begins-on}
 use Rattle.text_xml_in.specs.Levels.{StandsAt}

@@ -4,12 +4,13 @@ use mathlib.Core.Path.{_≡_, refl, sym, _∙_}
 use mathlib.Core.Bool.{Bool, true, false, cond, false≢true}
 use mathlib.Core.List.{List, _∷_}
 use native.Mathlib.Omega.{arith}
-use borrow.Author.Tests.{ne-eqb, eqb-true, eqb-false, ltb-true}
+use borrow.Author.Tests.{ne-eqb, eqb-true, ltb-true}
 use lib.Dec.{eqb}
 use lib.ListN.{length, getD, take}
 use Rattle.tables.specs.Limits.{wordLimit}
 use Rattle.text_xml_form.specs.Scan.{fits, goes, goesOn, endsOn, isDigit, stageOn, numberOn, depthOn, openOn, outer, standing}
 use Rattle.text_xml_in.specs.Levels.{heldLevels, heldAt, Held, noted, lowOn, StandsAt, Scans, Byte, Recallable}
+use Rattle.text_xml_in.proofs.Branches.{depth-same}
 use Rattle.text_xml_in.proofs.Standing.{stands-depth, stands-small, stands-opened, stands-next}
 use Rattle.text_xml_in.proofs.Holding.{held-more, held-less, held-innermost}
 
@@ -105,15 +106,11 @@ module _ {s : List ℕ} {i q v c d low : ℕ} {row : List ℕ} (here : Scans s i
     unfolding openOn
     open-same = rw (ne-eqb c 62 not)
 
-    depth-same : depthOn q c d ≡ d
-    unfolding depthOn
-    depth-same = rw (ne-eqb c 62 not)
-
     same : {r : ℕ} {next : List ℕ} → Held next r ls → (4 ≤ stageOn q c → stageOn q c ≤ 5 → r < d) → Scans s (suc i) (stageOn q c) (numberOn v c) (depthOn q c d) r next
     same held closing = record {
       at = at-next;
       held = rw (opened-next, open-same) held;
-      closing = λ x y. rw depth-same (closing x y);
+      closing = λ x y. rw (← depth-same q c d not) (closing x y);
     }
 
     pub keep-slash : c ≡ 47 → {r : ℕ} {next : List ℕ} → Held next r ls → (q ≡ 1 → 0 < d → r < d) → Scans s (suc i) (stageOn q c) (numberOn v c) (depthOn q c d) r next

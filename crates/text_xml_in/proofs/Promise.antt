@@ -9,7 +9,7 @@ use lib.ListN.{length, drop}
 use borrow.Author.Tests.{leb-true, le-leb, lt-leb}
 use Rattle.tables.specs.Limits.{treeLimit}
 use Rattle.tables.specs.Words.{nodes}
-use Rattle.tables.specs.Checks.{_then_, test, refuse, outputCheck}
+use Rattle.tables.specs.Checks.{test, refuse, outputCheck}
 use Rattle.tables.specs.declared.refusal.Refusal.{Refusal}
 use Rattle.tables.specs.declared.refusal.Checked.{Checked}
 use Rattle.tables.specs.declared.refusal.Checked.the-variants.{Fine, Refused}

@@ -15,7 +15,7 @@ use Rattle.text_parts.specs.Scans.{scanned}
 use Rattle.text_parts.proofs.Starts.{scanned-append, off-stays}
 use Rattle.text_xml_form.specs.Scan.{Stand, stand, isDigit, further, leads, goesOn, endsOn, fits, stageOn, numberOn, outer, openOn, depthOn, lost, goes, next, on, standing}
 use Rattle.text_xml_form.proofs.Names.{of-label, of-digit, of-leads}
-use Rattle.text_xml_form.proofs.Steps.{off-next}
+use Rattle.text_xml_form.proofs.Steps.{next-on, off-next}
 use Rattle.text_xml_in.specs.Levels.{StandsAt}
 
 -- one byte more
@@ -24,8 +24,8 @@ unfolding standing scanned
 standing-next s i h = rw (take-suc s i 0 h) (scanned-append next (stand 0 0 []) (take i s) (getD s i 0 ∷ []))
 
 pub next-goes : (x : Stand) (c : ℕ) → goes x c ≡ true → next x c ≡ stand (stageOn (x .stage) c) (numberOn (x .number) c) (openOn (x .stage) (x .number) c (x .opened))
-unfolding next
-next-goes x c e = rw e
+unfolding goes
+next-goes x c e = next-on (x .stage) (x .number) (x .opened) c e
 
 pub next-stops : (x : Stand) (c : ℕ) → goes x c ≡ false → next x c ≡ lost
 unfolding next

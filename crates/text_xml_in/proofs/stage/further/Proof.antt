@@ -3,7 +3,7 @@ use mathlib.Core.Path.{refl}
 use native.Mathlib.Omega.{arith}
 use borrow.Author.Needs.{needs}
 use Rattle.text_xml_form.specs.Scan.{further}
-use Rattle.text_xml_in.proofs.Branches.{digit-bounds}
+use Rattle.text_xml_form.proofs.Names.{of-digit}
 use Rattle.text_xml_in.proofs.stage.further.Statement.{statement}
 use Rattle.text_xml_in.proofs.stage.further.Tie as tie
 
@@ -16,6 +16,6 @@ further-spec =
     tie.close
     (tie.spec
     (λ c. search needs)
-    (λ c. let b = digit-bounds _ (c .pre .1) in search needs)
-    (λ c. let b = digit-bounds _ (c .pre .1) in search needs)
+    (λ c. let b = of-digit _ (c .pre .1) in search needs)
+    (λ c. let b = of-digit _ (c .pre .1) in search needs)
     returns)
