@@ -149,6 +149,10 @@ static sloefertand_answer plan(const argument *a) {
     return sloefertand_plan(a[0].words, a[0].size, a[1].words, a[1].size);
 }
 
+static sloefertand_answer plan_in(const argument *a) {
+    return sloefertand_plan_in(a[0].size, a[1].words, a[1].size, a[2].words, a[2].size);
+}
+
 static sloefertand_answer read_line(const argument *a) {
     return sloefertand_read_line(a[0].bytes, a[0].size, a[1].size, a[2].words, a[2].size);
 }
@@ -193,6 +197,7 @@ static const function functions[] = {
     {"insert_evidence", insert_evidence, 1, {{"read", 'r'}, {"update", 'p'}, {"tree", 'x'}, {"proposed", 't'}}},
     {"step", step, 4, {{"batch", 'x'}, {"number", 'u'}, {"at", 'v'}}},
     {"plan", plan, 1, {{"batch", 'x'}, {"plan", 't'}}},
+    {"plan_in", plan_in, 1, {{"mode", 'u'}, {"batch", 'x'}, {"plan", 't'}}},
     {"read_line", read_line, 1, {{"line", 'm'}, {"number", 'u'}, {"words", 't'}}},
     {"write_line", write_line, 1, {{"words", 'x'}, {"line", 'y'}}},
     {"read_pattern", read_pattern, 1, {{"list", 'l'}, {"text", 'm'}, {"words", 't'}}},

@@ -65,6 +65,7 @@ static void insert_evidence(void) {
 }
 static void step(void) { answer = sloefertand_step(batch, batch_words, 0, 0); }
 static void planning(void) { answer = sloefertand_plan(batch, batch_words, plan, COUNT(plan)); }
+static void planning_in(void) { answer = sloefertand_plan_in(SLOEFERTAND_NODE, batch, batch_words, plan, COUNT(plan)); }
 static void read_line(void) { answer = sloefertand_read_line(line, line_bytes, 1, words, COUNT(words)); }
 static void write_line(void) { answer = sloefertand_write_line(batch, COUNT(words), line, COUNT(line)); }
 static void read_pattern(void) {
@@ -103,6 +104,7 @@ static const struct measured {
     {"insert_evidence", insert_evidence, 45000},
     {"step", step, 2000},
     {"plan", planning, 27000},
+    {"plan_in", planning_in, 27000},
     {"write_line", write_line, 2000},
     {"read_line", read_line, 2000},
     {"write_pattern", write_pattern, 6000},

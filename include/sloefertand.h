@@ -7,9 +7,10 @@
  * STACK
  * What a call keeps for itself is on the stack. On x86-64 print takes at most 62,000 bytes of it; insert_evidence 45,000;
  * delete_evidence 43,000; insert and delete 42,000; write_tree 39,000, for 256 nodes each below the one before it; read 38,000, for
- * a set of steps a node; plan 27,000; insert_verdict and deep_insert_verdict 26,000; delete_verdict and deep_delete_verdict 10,000;
- * read_tree 9,000, for the labels of open elements; read_pattern and write_pattern 6,000; each other call 2,000. These are measured,
- * by boundary/stack.c on the longest patterns, trees, batches and lists, and not proved. None grows with the depth of a text.
+ * a set of steps a node; plan and plan_in 27,000; insert_verdict and deep_insert_verdict 26,000; delete_verdict and
+ * deep_delete_verdict 10,000; read_tree 9,000, for the labels of open elements; read_pattern and write_pattern 6,000; each other call
+ * 2,000. These are measured, by boundary/stack.c on the longest patterns, trees, batches and lists, and not proved. None grows with
+ * the depth of a text.
  *
  * BUFFERS
  * A buffer is a pointer and, behind it, its length in elements (uint16_t words or bytes, not sizeof). The caller answers for
@@ -80,6 +81,10 @@ extern "C" {
 #define SLOEFERTAND_WITNESS_WORDS 254u  /* words with room for the witness of any verdict */
 #define SLOEFERTAND_TREE_WORDS 512u     /* words with room for any tree that is read from tags */
 #define SLOEFERTAND_PLAN_BYTES 1664u    /* bytes with room for any printed plan */
+
+/* The modes of a plan. */
+#define SLOEFERTAND_NODE 1u /* a read gives the same nodes in every order that keeps its slot */
+#define SLOEFERTAND_DEEP 2u /* it gives the same nodes, and the same present nodes below each */
 
 /* Bytes with room for any tree of so many nodes, from 1 on, that is written as tags. */
 #define SLOEFERTAND_TREE_BYTES(nodes) (17u * (nodes) - 8u)
@@ -193,9 +198,19 @@ sloefertand_answer sloefertand_insert_evidence(const uint16_t *read, size_t read
 sloefertand_answer sloefertand_step(const uint16_t *batch, size_t batch_words, size_t number, size_t at);
 
 /* Writes a word a frame to `plan`: for an update its number among the updates, from 1; for a read its slot, the number of the
- * nearest earlier update that conflicts with it, or 0. first: the frames.
- * Refusals: 10 for words, then those of each frame in turn, as above; then 7. SLOEFERTAND_FRAMES words are always enough. */
+ * nearest earlier update to which the deep verdict says yes, or 0. first: the frames. In any order that keeps the updates in sequence
+ * and runs each read after the update of its slot and before every update that follows it in the batch, each read gives the same
+ * nodes, and the same present nodes below each; the last document is the same, and the same inserts are refused for room.
+ * Refusals: 10 for words, then those of each frame in turn, as above; then 7. SLOEFERTAND_FRAMES words are always enough.
+ * CHANGED: this call used to ask the node verdict. A caller that uses the nodes' numbers alone gets the old plan, and the old freedom
+ * to move reads, from sloefertand_plan_in with SLOEFERTAND_NODE. To do nothing is safe: a slot is never less than it was, and the
+ * nodes are the same all the same. */
 sloefertand_answer sloefertand_plan(const uint16_t *batch, size_t batch_words, uint16_t *plan, size_t plan_words);
+
+/* The plan in a mode: SLOEFERTAND_DEEP as above; SLOEFERTAND_NODE by the node verdict, where a read gives the same nodes in every
+ * such order, and what lies below them may differ. first: the frames.
+ * Refusals: 8 of table 6 at place 1 for another mode; then as above. No frame of a batch is refused by 8 at place 1. */
+sloefertand_answer sloefertand_plan_in(size_t mode, const uint16_t *batch, size_t batch_words, uint16_t *plan, size_t plan_words);
 
 /* LINES: four upper-case hexadecimal digits a word, the most significant first. */
 
@@ -213,7 +228,11 @@ sloefertand_answer sloefertand_write_line(const uint16_t *words, size_t words_wo
  * counted from that line's own first word: one past its last where a word is missing, the first left over where words are, 0 for
  * refusals 13 and 10. All four are hexadecimal, so refusal 10 is 000A and 13 is 000D. A line is refused by 13, then 10, then as a
  * frame, then by 9 where words are left over behind its frame. So a bad line is no refusal of this call. first: the bytes of the
- * text. Refusal 7, of table 4, where `text` is too short for them. SLOEFERTAND_PLAN_BYTES are always enough. */
+ * text. Refusal 7, of table 4, where `text` is too short for them. SLOEFERTAND_PLAN_BYTES are always enough.
+ * The very first line may name the mode: 00040001 for node, 00040002 for deep. It is no frame, prints nothing, and counts in line
+ * numbers only. Where it is of kind 4, it is refused by 13 as any line is, then by 9 where its second word is missing or a third is
+ * there, then by 8, at offset 1, where the second is neither 1 nor 2. Elsewhere kind 4 is refused by 8. Without it the plan is deep.
+ * CHANGED: it used to be the node plan; a caller that wants that puts 00040001 and a line feed in front. */
 sloefertand_answer sloefertand_print(const uint8_t *lines, size_t lines_bytes, uint8_t *text, size_t text_bytes);
 
 /* PATTERNS AS TEXT, in the abbreviated form of XPath 1.0: / and a first step, then steps after / (child) or // (descendant). A

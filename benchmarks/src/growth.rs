@@ -35,7 +35,10 @@ pub fn print() {
     print_sizes("verdict of 64 steps, inserted nodes", &[16, 32, 64, 128, 256], |n| {
         insert_verdict(64, n)
     });
-    print_sizes("plan, frames of 63 steps", &[8, 16, 32, 64, 128], |n| plan(n, 63));
+    for (mode, name) in [(1, "node"), (2, "deep")] {
+        let what = format!("{name} plan, frames of 63 steps");
+        print_sizes(&what, &[8, 16, 32, 64, 128], |n| plan(mode, false, n, 63));
+    }
     print_sizes(
         "proposed tree, insert, read of 3 steps, nodes of both trees, last new node",
         &[32, 64, 128, 256],

@@ -71,14 +71,18 @@ pub fn depth(tree: &[u16]) -> usize {
     depths.into_iter().max().unwrap_or(0)
 }
 
-/// Half deletes, then half reads, all of so many steps and with other root names, so that no read conflicts and every read is
-/// compared with every update.
-pub fn batch(frames: usize, steps: usize) -> Vec<u16> {
+/// Half updates, then half reads, all of so many steps and with other root names, so that no read conflicts, deeply or not, and
+/// every read is compared with every update. Updates are deletes, or inserts of one node.
+pub fn batch(inserts: bool, frames: usize, steps: usize) -> Vec<u16> {
+    let update = if inserts { 2 } else { 3 };
     let mut words = Vec::new();
     for frame in 0..frames {
-        let (kind, root) = if frame < frames / 2 { (3, 1) } else { (1, 2) };
+        let (kind, root) = if frame < frames / 2 { (update, 1) } else { (1, 2) };
         words.extend([kind, steps as u16]);
         words.extend(descending(steps, root, 3));
+        if kind == 2 {
+            words.extend([1, 0, 3]);
+        }
     }
     words
 }

@@ -98,7 +98,13 @@ extern "C" {
         proposed: *const u16,
         proposed_words: usize,
     ) -> Answer;
-    fn sloefertand_plan(batch: *const u16, batch_words: usize, plan: *mut u16, plan_words: usize) -> Answer;
+    fn sloefertand_plan_in(
+        mode: usize,
+        batch: *const u16,
+        batch_words: usize,
+        plan: *mut u16,
+        plan_words: usize,
+    ) -> Answer;
     fn sloefertand_write_tree(tree: *const u16, tree_words: usize, text: *mut u8, text_bytes: usize) -> Answer;
     fn sloefertand_read_tree(text: *const u8, text_bytes: usize, words: *mut u16, words_words: usize) -> Answer;
 }
@@ -178,10 +184,10 @@ pub fn insert_evidence(read: &[u16], update: &[u16], tree: &[u16], proposed: &[u
     })
 }
 
-/// The plan of a batch; the number of frames.
-pub fn plan(batch: &[u16], plan: &mut [u16]) -> Counted {
+/// The plan of a batch in mode 1, node, or 2, deep; the number of frames.
+pub fn plan(mode: usize, batch: &[u16], plan: &mut [u16]) -> Counted {
     // As in `read`.
-    counted(unsafe { sloefertand_plan(batch.as_ptr(), batch.len(), plan.as_mut_ptr(), plan.len()) })
+    counted(unsafe { sloefertand_plan_in(mode, batch.as_ptr(), batch.len(), plan.as_mut_ptr(), plan.len()) })
 }
 
 /// A tree as nested tags; the number of bytes.

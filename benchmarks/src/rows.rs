@@ -106,18 +106,18 @@ pub fn insert_evidence(steps: usize, nodes: usize, shown: bool) -> Vec<f64> {
     fastest(&mut [&mut ours, &mut theirs])
 }
 
-/// A plan of so many frames, half deletes and half reads, of so many steps.
-pub fn plan(frames: usize, steps: usize) -> Vec<f64> {
-    let words = batch(frames, steps);
+/// A plan in a mode of so many frames, half updates and half reads, of so many steps.
+pub fn plan(mode: usize, inserts: bool, frames: usize, steps: usize) -> Vec<f64> {
+    let words = batch(inserts, frames, steps);
     let (mut a, mut b) = (vec![0; frames], vec![0; frames]);
-    assert_eq!(proved::plan(&words, &mut a), Ok(frames));
-    assert_eq!(peer::plan::plan(&words, &mut b), Ok(frames));
+    assert_eq!(proved::plan(mode, &words, &mut a), Ok(frames));
+    assert_eq!(peer::plan::plan(mode, &words, &mut b), Ok(frames));
     assert_eq!(a, b);
     let mut ours = || {
-        let _ = black_box(proved::plan(black_box(&words), &mut a));
+        let _ = black_box(proved::plan(mode, black_box(&words), &mut a));
     };
     let mut theirs = || {
-        let _ = black_box(peer::plan::plan(black_box(&words), &mut b));
+        let _ = black_box(peer::plan::plan(mode, black_box(&words), &mut b));
     };
     fastest(&mut [&mut ours, &mut theirs])
 }
@@ -289,7 +289,16 @@ pub fn print() {
         "verdict, 64 against 64 steps, 256 inserted nodes",
         &insert_verdict(64, 256),
     );
-    print_row("plan, 128 frames of 63 steps, 4,096 verdicts", &plan(128, 63));
+    for (mode, name) in [(1, "node"), (2, "deep")] {
+        print_row(
+            &format!("{name} plan, 128 frames of 63 steps, deletes and reads, 4,096 verdicts"),
+            &plan(mode, false, 128, 63),
+        );
+        print_row(
+            &format!("{name} plan, 128 frames of 62 steps, inserts and reads, 4,096 verdicts"),
+            &plan(mode, true, 128, 62),
+        );
+    }
     for steps in [3, 64] {
         for (shown, end) in [(true, "last new node"), (false, "no difference")] {
             let name = format!("proposed tree, insert, 255 points, 256 inserted nodes, read of {steps} steps, {end}");

@@ -28,21 +28,28 @@ static int refused(sloefertand_answer answer) {
     return 1;
 }
 
-/* The plan of a batch, a line a frame: the walker gives the frames, the plan their words. */
+/* The deep plan of a batch and beside it the node plan, a line a frame: the walker gives the frames, the plans their words. */
 static void show_plan(const uint16_t *batch, size_t words) {
     static const char *const kinds[] = {"", "read", "insert", "delete"};
-    uint16_t plan[SLOEFERTAND_FRAMES];
-    sloefertand_answer planned = sloefertand_plan(batch, words, plan, COUNT(plan));
-    if (refused(planned)) {
+    uint16_t deep[SLOEFERTAND_FRAMES], node[SLOEFERTAND_FRAMES];
+    sloefertand_answer planned = sloefertand_plan(batch, words, deep, COUNT(deep));
+    if (refused(planned) || refused(sloefertand_plan_in(SLOEFERTAND_NODE, batch, words, node, COUNT(node)))) {
         return;
     }
     printf("%zu frames\n", planned.first);
     size_t at = 0;
     for (size_t number = 0; number < planned.first; number++) {
         sloefertand_answer frame = sloefertand_step(batch, words, number, at);
-        printf("%s of %zu steps and %zu nodes: %u\n", kinds[frame.first], frame.third, frame.fourth, (unsigned)plan[number]);
+        printf("%s of %zu steps and %zu nodes: %u, %u\n", kinds[frame.first], frame.third, frame.fourth, (unsigned)deep[number],
+               (unsigned)node[number]);
         at = frame.second;
     }
+}
+
+/* A mode is 1 or 2. */
+static void show_wrong_mode(const uint16_t *batch, size_t words) {
+    uint16_t plan[SLOEFERTAND_FRAMES];
+    refused(sloefertand_plan_in(3, batch, words, plan, COUNT(plan)));
 }
 
 /* Where a batch is refused: the place is the offset of the word at fault, which stands in brackets; a missing word is one past the
@@ -247,8 +254,11 @@ int main(void) {
         1, 2, 0, 1, 2, 3,          /* read a//c */
         1, 1, 0, 1,                /* read a */
     };
-    printf("the plan of a batch\n");
+    printf("the plan of a batch, deep and node\n");
     show_plan(batch, COUNT(batch));
+
+    printf("\na mode that there is not\n");
+    show_wrong_mode(batch, COUNT(batch));
 
     static const uint16_t bad[] = {
         1, 1, 0, 1,       /* read a */

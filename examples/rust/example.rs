@@ -11,6 +11,9 @@ mod sloefertand {
     pub const LINE_WORDS: usize = 643;
     pub const PATTERN_WORDS: usize = 128;
 
+    /// The node mode of a plan.
+    pub const NODE: usize = 1;
+
     /// Bytes with room for any tree of so many nodes, from 1 on, that is written as tags.
     pub const fn tree_bytes(nodes: usize) -> usize {
         17 * nodes - 8
@@ -124,6 +127,13 @@ mod sloefertand {
                 at: usize,
             ) -> Answer;
             pub fn sloefertand_plan(
+                batch: *const u16,
+                batch_words: usize,
+                plan: *mut u16,
+                plan_words: usize,
+            ) -> Answer;
+            pub fn sloefertand_plan_in(
+                mode: usize,
                 batch: *const u16,
                 batch_words: usize,
                 plan: *mut u16,
@@ -313,10 +323,24 @@ mod sloefertand {
         unsafe { exported::sloefertand_step(batch.as_ptr(), batch.len(), number, at) }.values()
     }
 
-    /// The number of frames; the plan is written to `plan`, a word a frame.
+    /// The number of frames; the deep plan is written to `plan`, a word a frame.
     pub fn plan(batch: &[u16], plan: &mut [u16]) -> Result<usize, Refusal> {
         let answer = unsafe {
             exported::sloefertand_plan(batch.as_ptr(), batch.len(), plan.as_mut_ptr(), plan.len())
+        };
+        answer.values().map(|values| values.first)
+    }
+
+    /// The same in a mode, `NODE` or `DEEP`.
+    pub fn plan_in(mode: usize, batch: &[u16], plan: &mut [u16]) -> Result<usize, Refusal> {
+        let answer = unsafe {
+            exported::sloefertand_plan_in(
+                mode,
+                batch.as_ptr(),
+                batch.len(),
+                plan.as_mut_ptr(),
+                plan.len(),
+            )
         };
         answer.values().map(|values| values.first)
     }
@@ -403,22 +427,32 @@ const ONLY_A: [u16; 2] = [0, 1]; // a
 // A tree: parent and label of each node.
 const LEAF_C: [u16; 2] = [0, 3]; // c
 
-/// The plan of a batch, a line a frame: the walker gives the frames, the plan their words.
+/// The deep plan of a batch and beside it the node plan, a line a frame: the walker gives the frames, the plans their words.
 fn show_plan(batch: &[u16]) -> Result<(), Refusal> {
     let kinds = ["", "read", "insert", "delete"];
-    let mut plan = [0; sloefertand::FRAMES];
-    let frames = sloefertand::plan(batch, &mut plan)?;
+    let mut deep = [0; sloefertand::FRAMES];
+    let mut node = [0; sloefertand::FRAMES];
+    let frames = sloefertand::plan(batch, &mut deep)?;
+    sloefertand::plan_in(sloefertand::NODE, batch, &mut node)?;
     println!("{frames} frames");
     let mut at = 0;
-    for (number, word) in plan[..frames].iter().enumerate() {
+    for number in 0..frames {
         let frame = sloefertand::step(batch, number, at)?;
         println!(
-            "{} of {} steps and {} nodes: {word}",
-            kinds[frame.first], frame.third, frame.fourth
+            "{} of {} steps and {} nodes: {}, {}",
+            kinds[frame.first], frame.third, frame.fourth, deep[number], node[number]
         );
         at = frame.second;
     }
     Ok(())
+}
+
+/// A mode is 1 or 2.
+fn show_wrong_mode(batch: &[u16]) {
+    let mut plan = [0; sloefertand::FRAMES];
+    if let Err(refusal) = sloefertand::plan_in(3, batch, &mut plan) {
+        show_refusal(refusal);
+    }
 }
 
 /// Where a batch is refused: the place is the offset of the word at fault, which stands in brackets; a missing word is one past the
@@ -605,8 +639,11 @@ fn show_all() -> Result<(), Refusal> {
         1, 2, 0, 1, 2, 3, // read a//c
         1, 1, 0, 1, // read a
     ];
-    println!("the plan of a batch");
+    println!("the plan of a batch, deep and node");
     show_plan(&batch)?;
+
+    println!("\na mode that there is not");
+    show_wrong_mode(&batch);
 
     let bad = [
         1, 1, 0, 1, // read a

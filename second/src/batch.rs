@@ -6,9 +6,9 @@
 use crate::limits::{BATCH_WORDS, FRAMES, INSERTED_NODES, STEPS};
 use crate::refusal::{number, Refusal, BATCH};
 
-const READ: u16 = 1;
-const INSERT: u16 = 2;
-const DELETE: u16 = 3;
+pub const READ: u16 = 1;
+pub const INSERT: u16 = 2;
+pub const DELETE: u16 = 3;
 
 /// What is wrong: the refusal number, and how many words there are from the one
 /// at fault to the end, none where the fault is that a word is missing.

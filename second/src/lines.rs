@@ -1,21 +1,29 @@
-//! Table 9: the damaged batches given to the plan printer, a line a frame.
+//! Table 9: the damaged batches given to the plan printer, a line a frame, without a
+//! mode line and behind one.
 
 use crate::counts::{Count, Counts};
 use crate::damage::BATCHES;
-use crate::printer::{check, line_of, Stop};
+use crate::mode_lines;
+use crate::printed_plans;
+use crate::printer::{answer, line_of};
 use crate::word_damages::{damages, harmed};
 use std::io::{self, Write};
 
-/// Writes table 9: for each batch each word's damages, then those of its lines' text.
+/// Writes table 9: for each batch each word's damages, those of its lines' text, then
+/// mode lines and the plans.
 pub fn write(out: &mut dyn Write) -> io::Result<Counts> {
-    let (mut words, mut texts) = (0, 0);
+    let (mut words, mut texts, mut modes, mut plans) = (0, 0, 0, 0);
     for (batch, frames) in (1..).zip(BATCHES) {
         words += write_words(out, batch, frames)?;
         texts += write_texts(out, batch, frames)?;
+        modes += mode_lines::write(out, batch, frames)?;
+        plans += printed_plans::write(out, batch, frames)?;
     }
     Ok(vec![
         Count::new("damaged-line-words", words),
         Count::new("damaged-line-texts", texts),
+        Count::new("mode-lines", modes),
+        Count::new("printed-plans", plans),
     ])
 }
 
@@ -55,7 +63,7 @@ fn write_answers(
     let mut tried = 0;
     for text in texts {
         tried += 1;
-        write!(out, " {}", answer(check(&input(frames, line, &text))))?;
+        write!(out, " {}", answer(&input(frames, line, &text)))?;
     }
     writeln!(out)?;
     Ok(tried)
@@ -75,18 +83,11 @@ fn input(frames: &[&[u16]], line: usize, text: &str) -> String {
     lines.iter().map(|line| format!("{line}\n")).collect()
 }
 
-/// An answer as the table shows it.
-fn answer(found: Result<(), Stop>) -> String {
-    match found {
-        Ok(()) => "ok".to_string(),
-        Err(stop) => stop.to_string(),
-    }
-}
-
 #[cfg(test)]
 mod tests {
     use super::*;
     use crate::batch::frames;
+    use crate::printer::{check, Stop};
 
     /// A batch as lines with one word damaged: all words up to the end of that
     /// line, how many stand before it, its number from 1, and the answer.
@@ -159,8 +160,8 @@ mod tests {
         let text = String::from_utf8(out).unwrap();
         let lines: Vec<&str> = text.lines().collect();
         let kinds = format!(
-            "3 0 1:8:0 ok 1:9:4 1:6:1{} 1:1:1 1:3:2",
-            " 1:8:0".repeat(17)
+            "3 0 1:8:0 ok 1:9:4 1:6:1 1:9:2{} 1:1:1 1:3:2",
+            " 1:8:0".repeat(16)
         );
         let labels = format!("3 3{} 1:9:3 1:9:4", " ok".repeat(21));
         assert_eq!(lines.len(), 4);

@@ -24,6 +24,8 @@ mod limits;
 mod lines;
 mod long_reads;
 mod made_texts;
+mod mode;
+mod mode_lines;
 mod node_set;
 mod numbering;
 mod pairs;
@@ -31,6 +33,7 @@ mod pattern;
 mod pattern_texts;
 mod placing;
 mod plans;
+mod printed_plans;
 mod printer;
 mod proposal_trees;
 mod proposals;
@@ -54,7 +57,6 @@ mod tree_tags;
 mod tree_texts;
 mod two_damages;
 mod updates;
-#[cfg(test)]
 mod verdict;
 mod word_damages;
 

@@ -14,6 +14,7 @@ use crate::numbering::{trees_of, Numbering, Update, TREE_LABELS};
 use crate::placing::selected;
 use crate::tree::{Row, Tree};
 use crate::updates::{delete_at, insert_at};
+use crate::verdict::Verdict;
 use std::io::{self, Write};
 
 /// What the trees have shown for each pair.
@@ -159,23 +160,22 @@ impl<'a> Pairs<'a> {
         bound(patterns[read].size(), patterns[pattern].size())
     }
 
-    /// The nodes of a smallest witness, 0 when no tree shows a difference.
-    pub fn witness(&self, update: Update, read: usize) -> usize {
-        self.witness[self.numbering.update_number(update)][read]
-    }
-
-    /// The deep verdict.
-    pub fn deep(&self, update: Update, read: usize) -> bool {
-        self.witness(update, read) > 0 || self.touched[update.pattern()][read]
+    /// What the trees have shown for a pair.
+    pub fn verdict(&self, update: Update, read: usize) -> Verdict {
+        let witness = self.witness[self.numbering.update_number(update)][read];
+        Verdict {
+            witness,
+            deep: witness > 0 || self.touched[update.pattern()][read],
+        }
     }
 
     /// A pair's character: the witness number as a digit if the two verdicts
     /// agree, else as a letter counted from `a`.
     fn character(&self, update: Update, read: usize) -> char {
-        let nodes = self.witness(update, read);
-        let agree = self.deep(update, read) == (nodes > 0);
+        let Verdict { witness, deep } = self.verdict(update, read);
+        let agree = deep == (witness > 0);
         let first = if agree { b'0' } else { b'a' };
-        char::from(first + nodes as u8)
+        char::from(first + witness as u8)
     }
 
     /// Writes table 1, a line an update.
@@ -225,7 +225,7 @@ pub fn touches(tree: &Tree, points: NodeSet, read: NodeSet) -> bool {
 #[cfg(test)]
 mod tests {
     use super::*;
-    use crate::verdict::{self, Operation, Verdict};
+    use crate::verdict::{self, Operation};
 
     /// The plain verdict of a numbered pair with trees of at most `most` nodes.
     fn plain(numbering: &Numbering, update: Update, read: usize, most: usize) -> Verdict {
@@ -247,8 +247,7 @@ mod tests {
             for read in 0..numbering.patterns.len() {
                 let most = pairs.bound_of(update.pattern(), read) + 1;
                 let plain = plain(&numbering, update, read, most);
-                assert_eq!(pairs.witness(update, read), plain.witness);
-                assert_eq!(pairs.deep(update, read), plain.deep);
+                assert_eq!(pairs.verdict(update, read), plain);
             }
         }
     }

@@ -1,5 +1,6 @@
-//! The verdict on one pair straight from the definitions, for the examples:
-//! every tree is read, updated and read again, and no work is shared.
+//! The verdict on one pair straight from the definitions, for the examples and
+//! the plans of table 9: every tree is read, updated and read again, and no work
+//! is shared.
 
 use crate::node_set::NodeSet;
 use crate::numbering::trees_of;

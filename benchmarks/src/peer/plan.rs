@@ -1,6 +1,6 @@
 //! The plan of a batch.
 
-use super::verdict::{delete_way, insert_way};
+use super::verdict::{delete_deep, delete_way, insert_deep, insert_way};
 use super::{checks, Counted, FRAMES, STEPS, TREE_NODES, WORDS};
 
 /// A frame where it stands in the batch.
@@ -73,6 +73,15 @@ fn checked(batch: &[u16], out: &[u16]) -> Counted {
     Ok(number)
 }
 
+/// Whether a read and an update conflict deeply.
+fn deep_conflict(read: Frame, update: Frame) -> bool {
+    if update.kind == 3 {
+        delete_deep(read.steps, update.steps)
+    } else {
+        insert_deep(read.steps, update.steps, update.nodes)
+    }
+}
+
 /// Whether a read and an update conflict.
 fn conflict(read: Frame, update: Frame) -> bool {
     let mut witness = [0; 2 * (STEPS + STEPS - 1)];
@@ -83,8 +92,13 @@ fn conflict(read: Frame, update: Frame) -> bool {
     }
 }
 
-/// One word a frame: an update's number, a read's slot.
-pub fn plan(batch: &[u16], out: &mut [u16]) -> Counted {
+/// One word a frame: an update's number, a read's slot. Mode 1 is node, 2 is deep.
+pub fn plan(mode: usize, batch: &[u16], out: &mut [u16]) -> Counted {
+    let related = match mode {
+        1 => conflict,
+        2 => deep_conflict,
+        _ => return Err(8),
+    };
     let frames = checked(batch, out)?;
     let mut updates: Vec<Frame> = Vec::new();
     let mut at = 0;
@@ -92,7 +106,7 @@ pub fn plan(batch: &[u16], out: &mut [u16]) -> Counted {
         let here = frame(batch, number, at)?;
         at = here.end;
         *word = if here.kind == 1 {
-            let nearest = updates.iter().rposition(|update| conflict(here, *update));
+            let nearest = updates.iter().rposition(|update| related(here, *update));
             nearest.map_or(0, |k| k as u16 + 1)
         } else {
             updates.push(here);

@@ -53,6 +53,38 @@ pub fn insert_way(read: &[u16], update: &[u16], tree: &[u16], out: &mut [u16]) -
     best.0 as usize
 }
 
+/// Whether some way is hit by both: a deep conflict of a read and a delete, in one table.
+pub fn delete_deep(read: &[u16], update: &[u16]) -> bool {
+    let pair = Pair {
+        read,
+        read_below: true,
+        update,
+        update_below: true,
+    };
+    let mut table: Table = [[0; STEPS]; STEPS];
+    pair.fill(&mut table);
+    table[read.len() / 2 - 1][update.len() / 2 - 1] != 0
+}
+
+/// A deep conflict of a read and an insert, in one table: at an update point the read has been, or enters the tree.
+pub fn insert_deep(read: &[u16], update: &[u16], tree: &[u16]) -> bool {
+    let pair = Pair {
+        read,
+        read_below: true,
+        update,
+        update_below: false,
+    };
+    let mut table: Table = [[0; STEPS]; STEPS];
+    pair.fill(&mut table);
+    let (i, j) = (read.len() / 2 - 1, update.len() / 2 - 1);
+    if table[i][j] != 0 {
+        return true;
+    }
+    let mut rows = [[false; STEPS]; TREE_NODES];
+    climb(read, tree, &mut rows);
+    (0..i).any(|k| table[k][j] != 0 && enters(read, tree, &rows, k))
+}
+
 /// A read and a delete.
 pub fn delete_verdict(read: &[u16], update: &[u16], out: &mut [u16]) -> Counted {
     checks::pattern(read)?;

@@ -8,7 +8,7 @@ use native.Mathlib.Omega.{arith}
 use lib.ListN.{length, drop, length-drop, drop-of-length-le}
 use lib.Seq.{take-all, take-nil}
 use borrow.Author.Tests.{ne-eqb}
-use Rattle.conflict.specs.Conflict.{delete, insert}
+use Rattle.conflict.specs.Conflict.{Update, delete, insert}
 use Rattle.batch_parts.specs.Parts.{part, count}
 use Rattle.batch_frame.specs.Frames.{kind, treeAt}
 use Rattle.batch_check.specs.Batches.{patternOf, treeOf, updateOf}
@@ -43,11 +43,11 @@ module _ (b : List ℕ) (at : ℕ) where
     nodes-there f e = rw (f, steps) at e
 
 -- what is told of the parts is told of the frames
-module _ (b : List ℕ) (read update : ℕ) {r p : List ℕ} (reads : r ≡ patternOf b read) (updates : p ≡ patternOf b update) {k : ℕ} (is : k ≡ kind b update) {c : Bool} where
-  pub insert-tells : {x : List ℕ} → x ≡ treeOf b update → k ≡ 2 → (c ≡ true) ↔ Clash r (insert p x) → (c ≡ true) ↔ Clash (patternOf b read) (updateOf b update)
+module _ {Related : List ℕ → Update → Type 0} (b : List ℕ) (read update : ℕ) {r p : List ℕ} (reads : r ≡ patternOf b read) (updates : p ≡ patternOf b update) {k : ℕ} (is : k ≡ kind b update) {c : Bool} where
+  pub insert-tells : {x : List ℕ} → x ≡ treeOf b update → k ≡ 2 → (c ≡ true) ↔ Clash Related r (insert p x) → (c ≡ true) ↔ Clash Related (patternOf b read) (updateOf b update)
   unfolding updateOf
   insert-tells nodes two tells = rw (← is, two) (rw (reads, updates, nodes) at tells)
 
-  pub delete-tells : (k ≡ 2 → ⊥) → (c ≡ true) ↔ Clash r (delete p) → (c ≡ true) ↔ Clash (patternOf b read) (updateOf b update)
+  pub delete-tells : (k ≡ 2 → ⊥) → (c ≡ true) ↔ Clash Related r (delete p) → (c ≡ true) ↔ Clash Related (patternOf b read) (updateOf b update)
   unfolding updateOf
   delete-tells other tells = rw (← is, ne-eqb k 2 other) (rw (reads, updates) at tells)

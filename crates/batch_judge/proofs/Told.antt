@@ -8,14 +8,17 @@ use lib.ListN.{length, take}
 use Rattle.tables.specs.Limits.{stepLimit}
 use Rattle.tables.specs.declared.refusal.Checked.the-variants.{Fine}
 use Rattle.tables.proofs.Accepted.{then-first}
-use Rattle.conflict.specs.Conflict.{Update, delete, insert}
+use Rattle.conflict.specs.Conflict.{Update, Conflict, Deep, delete, insert}
 use Rattle.check_verdict.specs.Order.{roomCheck, deepDeleteCheck, deepInsertCheck, deleteVerdictCheck, insertVerdictCheck, deepCheck, verdictCheck}
 use Rattle.verdict.specs.Promise.{NodeVerdict}
+use Rattle.verdict_deep.specs.Promise.{DeepVerdict}
 use Rattle.check_verdict.proofs.Accepting.{delete-longest, insert-longest}
 use Rattle.tables.proofs.Accepted.{never}
 use Rattle.outcomes.specs.declared.verdicts.Verdict.{Verdict}
 use Rattle.outcomes.specs.declared.verdicts.Verdict.the-variants as verdict
-use Rattle.batch_judge.specs.Judging.{Clash, said}
+use Rattle.outcomes.specs.declared.verdicts.Deeply.{Deeply}
+use Rattle.outcomes.specs.declared.verdicts.Deeply.the-variants as deep
+use Rattle.batch_judge.specs.Judging.{Clash, said, saidDeep}
 
 -- the words of the longest witness
 abbrev longest : ℕ
@@ -32,10 +35,16 @@ module _ (r : List ℕ) (out after : List ℕ) (long : length out ≡ longest) w
   room-aside (delete p) e = then-first (deepDeleteCheck r p) (roomCheck r p (length out)) e
   room-aside (insert p x) e = then-first (deepInsertCheck r p x) (roomCheck r p (length out)) e
 
-  pub told : (u : Update) (answer : Verdict) → NodeVerdict r u out after answer → (said answer ≡ true) ↔ Clash r u
-  told u (verdict.Refused why) v = ((λ e. record { conflict = λ fine. never (v .given) (room-enough u fine) }), (λ c. refl))
-  told u verdict.Clear v = ((λ e. absurd (false≢true e)), (λ c. absurd (v .none (c .conflict (room-aside u (v .fine))))))
-  told u (verdict.Conflict n) v = ((λ e. record { conflict = λ fine. record { tree = take (2 * n) after; shows = v .witness } }), (λ c. refl))
+  pub told : (u : Update) (answer : Verdict) → NodeVerdict r u out after answer → (said answer ≡ true) ↔ Clash Conflict r u
+  told u (verdict.Refused why) v = ((λ e. record { related = λ fine. never (v .given) (room-enough u fine) }), (λ c. refl))
+  told u verdict.Clear v = ((λ e. absurd (false≢true e)), (λ c. absurd (v .none (c .related (room-aside u (v .fine))))))
+  told u (verdict.Conflict n) v = ((λ e. record { related = λ fine. record { tree = take (2 * n) after; shows = v .witness } }), (λ c. refl))
+
+-- the deep verdict has no output
+pub told-deep : {r : List ℕ} {u : Update} (answer : Deeply) → DeepVerdict r u answer → (saidDeep answer ≡ true) ↔ Clash Deep r u
+told-deep (deep.Refused why) v = ((λ e. record { related = λ fine. never v fine }), (λ c. refl))
+told-deep deep.No v = ((λ e. absurd (false≢true e)), (λ c. absurd (v .none (c .related (v .fine)))))
+told-deep deep.Yes v = ((λ e. record { related = λ fine. v .some }), (λ c. refl))
 
 -- two answers that meet the promise are one
 pub conflicts-one : {Clashes : Type 0} (x y : Bool) → (x ≡ true) ↔ Clashes → (y ≡ true) ↔ Clashes → x ≡ y

@@ -1,4 +1,4 @@
--- A read and an update that stand in a batch are accepted by the verdict, so they clash exactly where they conflict.
+-- A read and an update that stand in a batch are accepted by the verdict, so they clash exactly where they are related.
 use Prim.Native.Nat.{ℕ}
 use mathlib.Core.Path.{_≡_}
 use mathlib.Core.Bool.{Bool, true}
@@ -9,7 +9,7 @@ use Rattle.tables.specs.Limits.{stepLimit, treeLimit}
 use Rattle.tables.specs.Words.{steps}
 use Rattle.tables.specs.declared.refusal.Checked.the-variants.{Fine}
 use Rattle.tables.proofs.Elsewhere.{pattern-elsewhere, tree-elsewhere}
-use Rattle.conflict.specs.Conflict.{Conflict}
+use Rattle.conflict.specs.Conflict.{Update}
 use Rattle.batch_frame.specs.Frames.{kind}
 use Rattle.check_verdict.specs.Order.{patternsCheck, deepDeleteCheck, deepInsertCheck, deepCheck}
 use Rattle.batch_check.specs.Batches.{patternOf, treeOf, updateOf}
@@ -36,5 +36,5 @@ module _ (b : List ℕ) {at place : ℕ} (s : Standing b at) (u : Updating b pla
       go (inr (inl two)) = rw (two, patterns) (tree-elsewhere treeLimit 6 3 (treeOf b place) (tree-fine b (u .standing .frame) place (u .standing .fine) two))
       go (inr (inr three)) = rw (three, patterns, lt-ltb 1 (steps (patternOf b place)) (delete-two b (u .standing .frame) place (u .standing .fine) three))
 
-  pub told : {c : Bool} → (c ≡ true) ↔ Clash (patternOf b at) (updateOf b place) → (c ≡ true) ↔ Conflict (patternOf b at) (updateOf b place)
-  told clash = ((λ e. clash .0 e .conflict accepted), (λ d. clash .1 (record { conflict = λ fine. d })))
+  pub told : {Related : List ℕ → Update → Type 0} {c : Bool} → (c ≡ true) ↔ Clash Related (patternOf b at) (updateOf b place) → (c ≡ true) ↔ Related (patternOf b at) (updateOf b place)
+  told clash = ((λ e. clash .0 e .related accepted), (λ d. clash .1 (record { related = λ fine. d })))

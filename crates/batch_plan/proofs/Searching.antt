@@ -1,4 +1,4 @@
--- The search for a slot: from the nearest earlier update backwards, no conflict is passed over.
+-- The search for a slot: from the nearest earlier update backwards, none that is related to the read is passed over.
 use Prim.Native.Nat.{ℕ, suc, _+_, _-_, _<_, _≤_}
 use mathlib.Core.Path.{_≡_, refl, sym, _∙_, ap, subst}
 use mathlib.Core.Bool.{Bool, true, false, false≢true}
@@ -9,7 +9,7 @@ use native.Mathlib.Numerals.{add-one}
 use native.Mathlib.Omega.{arith}
 use lib.ListN.{length, getD, set}
 use lib.Seq.{getD-set-same, getD-set-other}
-use Rattle.conflict.specs.Conflict.{Update, Conflict}
+use Rattle.conflict.specs.Conflict.{Update}
 use Rattle.order.specs.Frames.{read, update, At, earlier, number}
 use Rattle.batch_check.specs.Batches.{patternOf, updateOf, batchOf}
 use Rattle.batch_plan.specs.Batch.{SlotIs}
@@ -31,15 +31,15 @@ pub record Noted (b : List ℕ) (k : ℕ) (places : List ℕ) (m : ℕ) : Type 0
   pub count : m ≡ length (earlier (batchOf b) k)
   pub each : (i : ℕ) → i < m → Note b k (getD places i 0) (suc i)
 
--- of the m updates before frame k, those with a number above j do not conflict with r
-pub record Searched (b : List ℕ) (k : ℕ) (r : List ℕ) (m j : ℕ) : Type 0 where
+-- of the m updates before frame k, those with a number above j are not related to r
+pub record Searched (Related : List ℕ → Update → Type 0) (b : List ℕ) (k : ℕ) (r : List ℕ) (m j : ℕ) : Type 0 where
   pub within : j ≤ m
-  pub greatest : {i : ℕ} {u : Update} → At (batchOf b) i (update u) → i < k → Conflict r u → number (batchOf b) i ≤ j
+  pub greatest : {i : ℕ} {u : Update} → At (batchOf b) i (update u) → i < k → Related r u → number (batchOf b) i ≤ j
 
 -- the search ends at the slot, which is no more than the number of updates
-pub record Slotted (b : List ℕ) (k : ℕ) (r : List ℕ) (m w : ℕ) : Type 0 where
+pub record Slotted (Related : List ℕ → Update → Type 0) (b : List ℕ) (k : ℕ) (r : List ℕ) (m w : ℕ) : Type 0 where
   pub most : w ≤ m
-  pub slot : SlotIs (batchOf b) k r w
+  pub slot : SlotIs Related (batchOf b) k r w
 
 pub no-updates : (b places : List ℕ) → Noted b 0 places 0
 unfolding earlier
@@ -73,31 +73,31 @@ noted-update {b} {k} {at} {places} {m} p here long n = record { count = rw (add-
     each : (i : ℕ) → i < m + 1 → Note b (k + 1) (getD (set places m at) i 0) (suc i)
     each i h = go i h (decLt i m)
 
-module _ {b : List ℕ} {k : ℕ} {r : List ℕ} {m : ℕ} where
+module _ {Related : List ℕ → Update → Type 0} {b : List ℕ} {k : ℕ} {r : List ℕ} {m : ℕ} where
   -- at first all updates before the read are left
-  pub search-start : {places : List ℕ} → Noted b k places m → Searched b k r m m
+  pub search-start : {places : List ℕ} → Noted b k places m → Searched Related b k r m m
   search-start n = record { within = omega arith; greatest = λ p h c. omega (arith, n .count, number-before p h) }
 
   -- no update is left
-  pub search-none : {j w : ℕ} → Searched b k r m j → j ≡ 0 → w ≡ 0 → Slotted b k r m w
+  pub search-none : {j w : ℕ} → Searched Related b k r m j → j ≡ 0 → w ≡ 0 → Slotted Related b k r m w
   search-none s e z = record {
     most = omega arith;
     slot = record { some = λ h. absurd (omega arith); greatest = λ p h c. omega (arith, s .greatest p h c) };
   }
 
 -- the search of a read, at an update of which it is told whether they clash
-module _ {b : List ℕ} {k at m j : ℕ} (here : Standing b at) (s : Searched b k (patternOf b at) m j) (some : j ≡ 0 → ⊥) {places : List ℕ} (n : Noted b k places m)
-    {c : Bool} (clash : (c ≡ true) ↔ Clash (patternOf b at) (updateOf b (getD places (j - 1) 0))) where
+module _ {Related : List ℕ → Update → Type 0} {b : List ℕ} {k at m j : ℕ} (here : Standing b at) (s : Searched Related b k (patternOf b at) m j) (some : j ≡ 0 → ⊥) {places : List ℕ} (n : Noted b k places m)
+    {c : Bool} (clash : (c ≡ true) ↔ Clash Related (patternOf b at) (updateOf b (getD places (j - 1) 0))) where
   note : Note b k (getD places (j - 1) 0) j
   note =
       let same : suc (j - 1) ≡ j = omega arith in
       rw same at (n .each (j - 1) (omega (arith, s .within)))
 
-  tells : (c ≡ true) ↔ Conflict (patternOf b at) (updateOf b (getD places (j - 1) 0))
+  tells : (c ≡ true) ↔ Related (patternOf b at) (updateOf b (getD places (j - 1) 0))
   tells = told b here (note .updating) clash
 
-  -- the update that is looked at conflicts: it is the nearest
-  pub search-hit : {w : ℕ} → c ≡ true → w ≡ j → Slotted b k (patternOf b at) m w
+  -- the update that is looked at is related: it is the nearest
+  pub search-hit : {w : ℕ} → c ≡ true → w ≡ j → Slotted Related b k (patternOf b at) m w
   search-hit e is = record {
     most = omega (arith, s .within);
     slot = record {
@@ -106,7 +106,7 @@ module _ {b : List ℕ} {k at m j : ℕ} (here : Standing b at) (s : Searched b 
         what = updateOf b (getD places (j - 1) 0);
         at = note .there;
         earlier = note .before;
-        conflicts = tells .0 e;
+        related = tells .0 e;
         numbered = note .numbered ∙ sym is;
       };
       greatest = λ p h d. omega (arith, s .greatest p h d);
@@ -114,13 +114,13 @@ module _ {b : List ℕ} {k at m j : ℕ} (here : Standing b at) (s : Searched b 
   }
 
   -- it does not: one less is left
-  pub search-on : c ≡ false → Searched b k (patternOf b at) m (j - 1)
+  pub search-on : c ≡ false → Searched Related b k (patternOf b at) m (j - 1)
   search-on e = record { within = omega (arith, s .within); greatest = less }
     where
-      other : {i : ℕ} {u : Update} → At (batchOf b) i (update u) → Conflict (patternOf b at) u → number (batchOf b) i ≢ j
+      other : {i : ℕ} {u : Update} → At (batchOf b) i (update u) → Related (patternOf b at) u → number (batchOf b) i ≢ j
       other p d q =
           let one = number-one p (note .there) (q ∙ sym (note .numbered)) in
-          false≢true (sym e ∙ tells .1 (subst (λ u. Conflict (patternOf b at) u) one d))
+          false≢true (sym e ∙ tells .1 (subst (λ u. Related (patternOf b at) u) one d))
 
-      less : {i : ℕ} {u : Update} → At (batchOf b) i (update u) → i < k → Conflict (patternOf b at) u → number (batchOf b) i ≤ j - 1
+      less : {i : ℕ} {u : Update} → At (batchOf b) i (update u) → i < k → Related (patternOf b at) u → number (batchOf b) i ≤ j - 1
       less p h d = let off = other p d in omega (arith, s .greatest p h d)

@@ -1,4 +1,4 @@
--- The slot of a read in terms of conflicts, and the slot that a test finds.
+-- The slot of a read by a relation, and the slot that a test finds.
 use Prim.Native.Nat.{ℕ, zero, suc, _<_, _≤_}
 use mathlib.Core.Path.{_≡_, refl}
 use mathlib.Core.Bool.{Bool, true, false}
@@ -7,23 +7,23 @@ use mathlib.Core.Logic.{_↔_}
 use native.Mathlib.Decide.{decLt}
 use native.Mathlib.Omega.{arith}
 use lib.ListN.{length}
-use Rattle.conflict.specs.Conflict.{Update, Conflict}
+use Rattle.conflict.specs.Conflict.{Update}
 use Rattle.order.specs.Model.{nearest, slot, Fits}
 use Rattle.order.specs.Frames.{Frame, read, update, At, earlier, number}
 use Rattle.order.specs.Fitting.{FitFrame, DecidedBy}
 use Rattle.order.proofs.Places.{at-below, by-kind}
 use Rattle.order.proofs.Slots.{found}
-use Rattle.batch_plan.specs.Batch.{EarlierConflict, SlotIs}
+use Rattle.batch_plan.specs.Batch.{EarlierRelated, SlotIs}
 use Rattle.batch_plan.proofs.Numbers.{earlier-next, number-rises}
 
-module _ {b : List (Frame (List ℕ) Update)} {k : ℕ} {r : List ℕ} where
-  not-less : {v w : ℕ} → SlotIs b k r v → SlotIs b k r w → v < w → ⊥
+module _ {Related : List ℕ → Update → Type 0} {b : List (Frame (List ℕ) Update)} {k : ℕ} {r : List ℕ} where
+  not-less : {v w : ℕ} → SlotIs Related b k r v → SlotIs Related b k r w → v < w → ⊥
   not-less s t h =
       let hit = t .some (omega arith) in
-      omega (arith, s .greatest (hit .at) (hit .earlier) (hit .conflicts), hit .numbered)
+      omega (arith, s .greatest (hit .at) (hit .earlier) (hit .related), hit .numbered)
 
   -- a read has one slot
-  pub slot-one : {v w : ℕ} → SlotIs b k r v → SlotIs b k r w → v ≡ w
+  pub slot-one : {v w : ℕ} → SlotIs Related b k r v → SlotIs Related b k r w → v ≡ w
   slot-one {v} {w} s t = go (decLt v w) (decLt w v)
     where
       go : Dec (v < w) → Dec (w < v) → v ≡ w
@@ -58,14 +58,14 @@ module _ (meant : Update → Bool) (b : List (Frame (List ℕ) Update)) where
       go u p true e rest = record { frame = k; what = u; at = p; before = omega arith; hits = e; numbered = rw (earlier-next p, e) }
       go u p false e rest = rw (earlier-next p, e) (later (rest (rw (earlier-next p, e) at s)))
 
--- a test that decides conflicts finds the slot
-module _ {test : List ℕ → Update → Bool} (decides : DecidedBy Conflict test) {b : List (Frame (List ℕ) Update)} (fits : Fits FitFrame b)
+-- a test that decides the relation finds the slot
+module _ {Related : List ℕ → Update → Type 0} {test : List ℕ → Update → Bool} (decides : DecidedBy Related test) {b : List (Frame (List ℕ) Update)} (fits : Fits FitFrame b)
     {k : ℕ} {r : List ℕ} (at : At b k (read r)) where
-  pub slot-is : SlotIs b k r (slot test b k r)
+  pub slot-is : SlotIs Related b k r (slot test b k r)
   unfolding slot
   slot-is = record { some = some; greatest = greatest }
     where
-      some : 0 < nearest (test r) (earlier b k) → EarlierConflict b k r (nearest (test r) (earlier b k))
+      some : 0 < nearest (test r) (earlier b k) → EarlierRelated Related b k r (nearest (test r) (earlier b k))
       some h =
           let s = hit (test r) b k (omega (arith, at-below at)) h in
           record {
@@ -73,15 +73,15 @@ module _ {test : List ℕ → Update → Bool} (decides : DecidedBy Conflict tes
             what = s .what;
             at = s .at;
             earlier = s .before;
-            conflicts = decides .exactly (fits .fit at) (fits .fit (s .at)) .0 (s .hits);
+            related = decides .exactly (fits .fit at) (fits .fit (s .at)) .0 (s .hits);
             numbered = s .numbered;
           }
 
-      greatest : {j : ℕ} {u : Update} → At b j (update u) → j < k → Conflict r u → number b j ≤ nearest (test r) (earlier b k)
+      greatest : {j : ℕ} {u : Update} → At b j (update u) → j < k → Related r u → number b j ≤ nearest (test r) (earlier b k)
       greatest {j} p h c =
           let s = found (test r) p (decides .exactly (fits .fit at) (fits .fit p) .1 c) k (omega (arith, at-below at)) h in
           omega (arith, number-rises b (s .late), s .named)
 
-  -- so the slot in terms of conflicts is the slot of demand 3
-  pub slot-exactly : (w : ℕ) → SlotIs b k r w ↔ (w ≡ slot test b k r)
+  -- so the slot by the relation is the slot of demand 3
+  pub slot-exactly : (w : ℕ) → SlotIs Related b k r w ↔ (w ≡ slot test b k r)
   slot-exactly w = (λ s. slot-one s slot-is, λ e. rw e slot-is)

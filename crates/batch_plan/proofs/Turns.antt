@@ -24,19 +24,19 @@ use Rattle.batch_check.proofs.Frames.{frames-on, frames-off, check-on, accepted
 use Rattle.batch_plan.proofs.Searching.{Noted, no-updates, noted-within, noted-read, noted-update}
 
 -- the words of the first k frames are written, and what lies behind is as it was
-pub record Filled (b : List (Frame (List ℕ) Update)) (k : ℕ) (before after : List ℕ) : Type 0 where
-  pub words : {i : ℕ} {f : Frame (List ℕ) Update} → At b i f → i < k → WordIs b i f (getD after i 0)
+pub record Filled (Related : List ℕ → Update → Type 0) (b : List (Frame (List ℕ) Update)) (k : ℕ) (before after : List ℕ) : Type 0 where
+  pub words : {i : ℕ} {f : Frame (List ℕ) Update} → At b i f → i < k → WordIs Related b i f (getD after i 0)
   pub behind : (i : ℕ) → k ≤ i → getD after i 0 ≡ getD before i 0
   pub kept : length after ≡ length before
 
-filled-none : (b : List (Frame (List ℕ) Update)) (out : List ℕ) → Filled b 0 out out
+filled-none : {Related : List ℕ → Update → Type 0} (b : List (Frame (List ℕ) Update)) (out : List ℕ) → Filled Related b 0 out out
 filled-none b out = record { words = λ p h. absurd (omega arith); behind = λ i h. refl; kept = refl }
 
-filled-more : {b : List (Frame (List ℕ) Update)} {k : ℕ} {before after : List ℕ} {f : Frame (List ℕ) Update} (w : ℕ)
-    → Filled b k before after → At b k f → k < length before → WordIs b k f w → Filled b (k + 1) before (set after k w)
-filled-more {b} {k} {before} {after} {f} w s at room is = record { words = λ {i} p h. go i p h (decLt i k); behind = behind; kept = rw length-set (s .kept) }
+filled-more : {Related : List ℕ → Update → Type 0} {b : List (Frame (List ℕ) Update)} {k : ℕ} {before after : List ℕ} {f : Frame (List ℕ) Update} (w : ℕ)
+    → Filled Related b k before after → At b k f → k < length before → WordIs Related b k f w → Filled Related b (k + 1) before (set after k w)
+filled-more {Related} {b} {k} {before} {after} {f} w s at room is = record { words = λ {i} p h. go i p h (decLt i k); behind = behind; kept = rw length-set (s .kept) }
   where
-    go : (i : ℕ) {g : Frame (List ℕ) Update} → At b i g → i < k + 1 → Dec (i < k) → WordIs b i g (getD (set after k w) i 0)
+    go : (i : ℕ) {g : Frame (List ℕ) Update} → At b i g → i < k + 1 → Dec (i < k) → WordIs Related b i g (getD (set after k w) i 0)
     go i p h (yes l) = rw (getD-set-other after k i w 0 (λ e. omega arith)) (s .words p l)
     go i {g} p h (no l) =
         let same : i ≡ k = omega arith in
@@ -47,18 +47,18 @@ filled-more {b} {k} {before} {after} {f} w s at room is = record { words = λ {i
     behind i h = getD-set-other after k i w 0 (λ e. omega arith) ∙ s .behind i (omega arith)
 
 -- the walk stands before frame k, at this place, with m updates noted
-pub record Walked (b : List ℕ) (n : ℕ) (before after places : List ℕ) (m at k : ℕ) : Type 0 where
+pub record Walked (Related : List ℕ → Update → Type 0) (b : List ℕ) (n : ℕ) (before after places : List ℕ) (m at k : ℕ) : Type 0 where
   pub planning : Planning b n (length before)
   pub within : k ≤ n
   pub left : drop k (batchOf b) ≡ framesFrom b at (length b)
   pub fine : checkFrom b k at (length b) ≡ Fine
   pub noted : Noted b k places m
   pub long : length places ≡ frameLimit
-  pub filled : Filled (batchOf b) k before after
+  pub filled : Filled Related (batchOf b) k before after
 
-pub walk-start : {b : List ℕ} {n : ℕ} {out places : List ℕ} → Planning b n (length out) → length places ≡ frameLimit → Walked b n out out places 0 0 0
+pub walk-start : {Related : List ℕ → Update → Type 0} {b : List ℕ} {n : ℕ} {out places : List ℕ} → Planning b n (length out) → length places ≡ frameLimit → Walked Related b n out out places 0 0 0
 unfolding batchOf
-walk-start {b} {out} {places} p long = record {
+walk-start {b = b} {out = out} {places = places} p long = record {
   planning = p;
   within = omega arith;
   left = refl;
@@ -80,7 +80,7 @@ drop-next (x ∷ l) zero e = cc
 drop-next [] (suc k) e = let z : _≡_ {A = ℕ} 0 1 = cc in absurd (omega arith)
 drop-next (x ∷ l) (suc k) e = drop-next l k e
 
-module _ {b : List ℕ} {n : ℕ} {before after places : List ℕ} {m at k : ℕ} (s : Walked b n before after places m at k) (h : k < n) where
+module _ {Related : List ℕ → Update → Type 0} {b : List ℕ} {n : ℕ} {before after places : List ℕ} {m at k : ℕ} (s : Walked Related b n before after places m at k) (h : k < n) where
   -- a frame is left, so it stands within the batch
   in-batch : at < length b
   in-batch = go (decLt at (length b))
@@ -114,7 +114,7 @@ module _ {b : List ℕ} {n : ℕ} {before after places : List ℕ} {m at k : ℕ
 
   -- a turn, once its word is known and its update noted
   turn : {places' : List ℕ} {m' end : ℕ} (w : ℕ) → end ≡ endOf b at → Noted b (k + 1) places' m' → length places' ≡ frameLimit
-      → WordIs (batchOf b) k (meaning b at) w → Walked b n before (set after k w) places' m' end (k + 1)
+      → WordIs Related (batchOf b) k (meaning b at) w → Walked Related b n before (set after k w) places' m' end (k + 1)
   turn w e noted long is = record {
     planning = s .planning;
     within = omega arith;
@@ -138,15 +138,15 @@ module _ {b : List ℕ} {n : ℕ} {before after places : List ℕ} {m at k : ℕ
     updates-here e = record { standing = stands; other = λ q. e (is ∙ q) }
 
     -- a read gets its slot
-    pub read-turn : {end w : ℕ} → end ≡ endOf b at → kd ≡ 1 → SlotIs (batchOf b) k (patternOf b at) w
-        → Walked b n before (set after k w) places m end (k + 1)
+    pub read-turn : {end w : ℕ} → end ≡ endOf b at → kd ≡ 1 → SlotIs Related (batchOf b) k (patternOf b at) w
+        → Walked Related b n before (set after k w) places m end (k + 1)
     read-turn {w} e one slot =
         turn w e (noted-read (rw (read-frame one) at (drop-at (batchOf b) k next-left)) (s .noted)) (s .long)
         (rw (read-frame one) slot)
 
     -- an update gets its number
     pub update-turn : {end : ℕ} → end ≡ endOf b at → (kd ≡ 1 → ⊥)
-        → Walked b n before (set after k (m + 1)) (set places m at) (m + 1) end (k + 1)
+        → Walked Related b n before (set after k (m + 1)) (set places m at) (m + 1) end (k + 1)
     unfolding number
     update-turn e other =
         turn (m + 1) e
@@ -155,7 +155,7 @@ module _ {b : List ℕ} {n : ℕ} {before after places : List ℕ} {m at k : ℕ
         (rw (update-frame other, add-one) (ap suc (s .noted .count)))
 
 -- after the last frame the plan is written
-pub walk-end : {b : List ℕ} {n : ℕ} {before after places : List ℕ} {m at k : ℕ} → Walked b n before after places m at k → n ≤ k → PlanWritten (batchOf b) before after
+pub walk-end : {Related : List ℕ → Update → Type 0} {b : List ℕ} {n : ℕ} {before after places : List ℕ} {m at k : ℕ} → Walked Related b n before after places m at k → n ≤ k → PlanWritten Related (batchOf b) before after
 walk-end s h =
     let all = s .planning .frames in
     record {

@@ -18,7 +18,7 @@ use Rattle.selection.proofs.Presence.{present-used}
 use Rattle.selection.proofs.Selecting.{selecting}
 use Rattle.selection.proofs.Hitting.{Hit, hit-hits, hits-hit}
 use Rattle.conflict.specs.Conflict.{Update, pattern, Touches}
-use Rattle.conflict.specs.Meeting.{fewestOf}
+use Rattle.conflict.specs.Meeting.{meetingOf, fewestOf}
 use Rattle.conflict.specs.Crossing.{chain, touches}
 use Rattle.conflict.proofs.Meeting.{Labels, Common}
 use Rattle.conflict.proofs.Shortest.{length-meetingOf, meetingOf-labels, meetingOf-common, fewestOf-within}
@@ -26,8 +26,19 @@ use Rattle.conflict.proofs.Chains.{chain-sound, chain-last, chain-selec
 use Rattle.conflict.proofs.Depth.{by-selected}
 
 -- a way that the update selects and the read hits
-abbrev Touched : List ℕ → List ℕ → List ℕ → Type 0
+abbrev pub Touched : List ℕ → List ℕ → List ℕ → Type 0
 Touched r p = Common (run r true (last r)) (run p false (last p))
+
+-- the test holds exactly if there is one
+module _ (r p : List ℕ) where
+  pub touched-touches : (w : List ℕ) → Touched r p w → touches r p ≡ true
+  unfolding touches
+  touched-touches w both =
+      lt-ltb 0 (fewestOf r true p false (last r) (last p)) (fewestOf-within r true p false (last r) (last p) w both .some)
+
+  pub touches-touched : touches r p ≡ true → Touched r p (meetingOf r true p false (last r) (last p))
+  unfolding touches
+  touches-touched e = meetingOf-common r true p false (last r) (last p) (ltb-true 0 (fewestOf r true p false (last r) (last p)) e)
 
 module _ (r : List ℕ) (u : Update) (read : Pattern r) (update : Pattern (pattern u)) where
   -- the last node of the chain of such a way is an update point, and the read selects it or a node above it
@@ -63,7 +74,7 @@ module _ (r : List ℕ) (u : Update) (read : Pattern r) (update : Pattern (patte
   -- the update touches what the read selects exactly if there is such a way
   pub touching : ((k : ℕ) → label r k < wordLimit) → ((k : ℕ) → label (pattern u) k < wordLimit) → Touches r u ↔ (touches r (pattern u) ≡ true)
   unfolding touches
-  touching names others = (to, of)
+  touching names others = (λ t. touched-touches r p (up (t .tree) (t .point)) (point-way t), of)
     where
       p : List ℕ
       p = pattern u
@@ -71,12 +82,8 @@ module _ (r : List ℕ) (u : Update) (read : Pattern r) (update : Pattern (patte
       n : ℕ
       n = fewestOf r true p false (last r) (last p)
 
-      to : Touches r u → touches r p ≡ true
-      to t = lt-ltb 0 n (fewestOf-within r true p false (last r) (last p) (up (t .tree) (t .point)) (point-way t) .some)
-
       of : touches r p ≡ true → Touches r u
       of e =
-          let some : 0 < n = ltb-true 0 n e in
           way-point (meetingOf-labels r true p false (last r) (last p) names others)
-          (rw (length-meetingOf r true p false (last r) (last p)) some)
-          (meetingOf-common r true p false (last r) (last p) some)
+          (rw (length-meetingOf r true p false (last r) (last p)) (ltb-true 0 n e))
+          (touches-touched r p e)

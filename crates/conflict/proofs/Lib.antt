@@ -11,3 +11,5 @@ pub mod Entering
 pub mod Inserts
 pub mod Chained
 pub mod Deeps
+pub mod Both
+pub mod Beneath

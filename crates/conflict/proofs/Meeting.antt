@@ -129,3 +129,17 @@ module _ (a b : ℕ → ℕ) (s u : ℕ → Bool) where
   -- where there is no meeting, both run on no way
   pub fewest-none : (i j : ℕ) (w : List ℕ) → fewest a b s u i j ≡ 0 → Common (runs (asks a) s i) (runs (asks b) u j) w → ⊥
   fewest-none i j w e c = omega (arith, fewest-within i j w c)
+
+-- a meeting asks only of the read's own state and of those before it whether they may stay
+pub meeting-same : (a b : ℕ → ℕ) (s t u : ℕ → Bool) (i : ℕ) → ((k : ℕ) → k ≤ i → s k ≡ t k) → (j : ℕ) → meeting a b s u i j ≡ meeting a b t u i j
+unfolding meeting
+meeting-same a b s t u zero same zero = refl
+meeting-same a b s t u zero same (suc j) = rw (same 0 (omega arith), meeting-same a b s t u zero same j)
+meeting-same a b s t u (suc i) same zero = rw (meeting-same a b s t u i (λ k h. same k (omega arith)) zero)
+meeting-same a b s t u (suc i) same (suc j) =
+    rw (
+      same (suc i) (omega arith),
+      meeting-same a b s t u i (λ k h. same k (omega arith)) j,
+      meeting-same a b s t u i (λ k h. same k (omega arith)) (suc j),
+      meeting-same a b s t u (suc i) same j,
+    )

@@ -37,7 +37,7 @@ smallest-one {r} {u} {m} {n} a b = le-antisymm (no-more a b) (no-more b a)
         (eq-zero-or-pos j)
 
 -- what is not true is false
-not-true-false : {b : Bool} → (b ≡ true → ⊥) → b ≡ false
+pub not-true-false : {b : Bool} → (b ≡ true → ⊥) → b ≡ false
 not-true-false {b = true} h = absurd (h refl)
 not-true-false {b = false} h = refl
 

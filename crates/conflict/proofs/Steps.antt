@@ -1,12 +1,12 @@
 -- Labels and moves one at a time: which label a step takes, and what the least of two and one more come to.
-use Prim.Native.Nat.{ℕ, suc, _+_, _<_, _≤_}
+use Prim.Native.Nat.{ℕ, zero, suc, _+_, _<_, _≤_}
 use native.Mathlib.Omega.{arith}
 use native.Mathlib.Numerals.{add-one}
 use mathlib.Core.Path.{_≡_, refl, sym, _∙_}
 use mathlib.Core.Bool.{Bool, true, false, _||_, cond, or-true}
 use mathlib.Core.List.{List, [], _∷_}
-use borrow.Author.Tests.{eqb-true, eqb-false, eq-eqb, leb-true, leb-false}
-use lib.Dec.{eqb, leb, eqb·suc-zero}
+use borrow.Author.Tests.{eqb-true, eqb-false, eq-eqb, leb-true, leb-false, lt-ltb}
+use lib.Dec.{eqb, ltb, leb, eqb·suc-zero}
 use lib.ListN.{length}
 use Rattle.tables.specs.Limits.{wordLimit}
 use Rattle.selection.proofs.Runs.{either}
@@ -89,6 +89,12 @@ least-first m n h = by-sooner m n (λ p q t. rw t h) (λ f t. rw t (omega (arith
 pub least-second : (m n : ℕ) {k : ℕ} → Within n k → Within (least m n) k
 unfolding least
 least-second m n h = by-sooner m n (λ p q t. rw t (omega (arith, q (h .some)))) (λ f t. rw t h)
+
+-- it is present exactly if one of the two is
+pub least-some : (m n : ℕ) → ltb 0 (least m n) ≡ (ltb 0 m || ltb 0 n)
+unfolding least sooner
+least-some zero n = refl
+least-some (suc m) n = rw (lt-ltb 0 (suc m) (omega arith)) (lt-ltb 0 (least (suc m) n) (least-first (suc m) n {k = suc m} (omega arith) .some))
 
 -- what holds of two holds of the one taken
 pub cond-keeps : {A : Type 0} (P : A → Type 0) (t : Bool) {x y : A} → (t ≡ true → P x) → P y → P (cond t x y)

@@ -44,6 +44,13 @@ insertWay r p x = entering r p x (last r)
 unfoldable pub touches : List ℕ → List ℕ → Bool
 touches r p = ltb 0 (fewestOf r true p false (last r) (last p))
 
+-- the deep verdict's tests: for a delete, some way is one that both hit; for an insert, there is a way that shows a conflict, or the update touches
+unfoldable pub deleteDeep : List ℕ → List ℕ → Bool
+deleteDeep r p = ltb 0 (fewestOf r true p true (last r) (last p))
+
+unfoldable pub insertDeep : List ℕ → List ℕ → List ℕ → Bool
+insertDeep r p x = ltb 0 (length (insertWay r p x)) || touches r p
+
 -- the words of a chain with these labels, nearest first: the root is the last of them
 unfoldable pub chain : List ℕ → List ℕ
 chain [] = []

@@ -1,6 +1,7 @@
 -- The three demands hold, and so does what stands beside them.
 use Prim.Native.Nat.{ℕ, _*_, _<_}
 use mathlib.Core.Path.{_≡_, refl, sym, _∙_}
+use mathlib.Core.Bool.{Bool, false}
 use mathlib.Core.List.{List, _++_}
 use mathlib.Core.Logic.{_↔_, inl, inr}
 use native.Mathlib.Omega.{arith}
@@ -37,13 +38,17 @@ use Rattle.outcomes.specs.declared.verdicts.Deeply.the-variants as deep
 use Rattle.verdict_evidence.proofs.Promise.{delete-none-gained, insert-none-lost, gained-new}
 use Rattle.marked.proofs.Marked.{small, words-of, marked}
 use Rattle.order.proofs.Own.{own-order}
-use Rattle.order.proofs.Deciding.{conflicting, conflicting-decides}
+use Rattle.order.specs.Fitting.{DecidedBy}
+use Rattle.order.proofs.Deciding.{conflicting-decides, deeply-decides}
 use Rattle.batch_check.specs.Batches.{batchOf}
 use Rattle.batch_check.proofs.Frames.{accepted-fits}
+use Rattle.batch_mode.proofs.Branches.{check-exactly}
 use Rattle.batch_plan.proofs.Laws.{same-slot}
 use Rattle.order_calls.proofs.Callable.{accepted-callable}
 use Rattle.order_calls.proofs.Running.{run-has, run-works, run-room, run-some}
-use Rattle.order_calls.proofs.Same.{wider-runs}
+use Rattle.selection.proofs.Showing.{below-nodes}
+use Rattle.order_calls.proofs.Demand.{Shown, nodes-shown, below-shown}
+use Rattle.order_calls.proofs.Same.{shown-runs}
 use Rattle.order_deletes.specs.Deletes.{abc}
 use Rattle.order_deletes.proofs.Calls.{calls-marks, calls-count, calls-refusals, calls-some}
 use Rattle.order_deletes.proofs.Orders.{orders-marks, orders-total, either-marks, either-total, second-works, first-fine, made-before, again}
@@ -66,8 +71,12 @@ use Rattle.text_printer.proofs.Settled.{printed-one}
 use Rattle.text_printer.proofs.Enough.{room-enough}
 use Rattle.text_printer.proofs.Behind.{prints-first}
 use Rattle.text_printer.proofs.Offsets.{offset-none, line-fault, stop-offset}
-use Rattle.demands.specs.Demands.{DemandOne, DemandTwo, Start, DemandThree, EitherOrder, Besides}
-use Rattle.demands.proofs.Numbering.{stops}
+use Rattle.demands.specs.Demands.{DemandOne, DemandTwo, Start, DemandThree, InBothModes, EitherOrder, Besides}
+use Rattle.text_printer.specs.Printer.{refusal, named, misnamed}
+use Rattle.text_printer.proofs.Moded.{moded-plan}
+use Rattle.text_first_line.specs.FirstLine.{firstWords}
+use Rattle.text_first_line.proofs.Laws.{mode-refused-numbers}
+use Rattle.demands.proofs.Numbering.{stops, mode-lines}
 use Rattle.demands.proofs.Orders as orders
 use Rattle.demands.proofs.Texts.{lists-place, list-lines, texts, texts-place, text-steps, written-reads, read-writes}
 use Rattle.demands.proofs.Tags.{tags-enough, tags-reached, witness-text}
@@ -76,7 +85,8 @@ use Rattle.demands.proofs.Evidence.{evidence-exactly, first-changed, ow
 use Rattle.demands.proofs.Updates.{deleted-by, all-deleted-by, inserted-by}
 use Rattle.demands.proofs.Agreeing.{readings-agree}
 use Rattle.demands.proofs.Keeping.{keeps-order, order-keeps}
-use Rattle.demands.proofs.Example.{start, moved-plan, moved-keeps}
+use Rattle.demands.proofs.Example.{reads, deletes, clear, clear-deep, start, moved-plan, moved-keeps, slots-differ}
+use Rattle.demands.proofs.Modes.{named-node, named-deep, deeper, not-nodes}
 
 pub demand-one : DemandOne
 demand-one =
@@ -93,6 +103,7 @@ demand-one =
       evidences = orders.evidences;
       walks = orders.walks;
       plans = orders.plans;
+      plans-in = orders.plans-in;
       lines-in = orders.lines-in;
       lines-out = orders.lines-out;
       patterns-in = orders.patterns-in;
@@ -105,12 +116,15 @@ demand-one =
       texts-place = texts-place;
       tags = tags;
       tags-place = tags-place;
+      modes = check-exactly;
       prints = orders.prints;
       prints-one = printed-one;
       prints-refusal = λ s line before why h. stops h;
       prints-fault = λ l n b why e line ten. line-fault l n b why line ten e;
       prints-offset = λ s line before why h not-line ten. stop-offset not-line ten h;
       prints-none = offset-none;
+      prints-mode = λ s why mode e. (mode-lines (firstWords s) .numbered why e, mode-refused-numbers (firstWords s) e, misnamed mode e);
+      prints-below = λ s line before why mode e lines. named mode e (refusal lines);
     }
 
 -- where it is not refused, the verdict's count tells whether there is a conflict
@@ -163,23 +177,40 @@ accepted-words {d} words fine = record { sound = accepted-document d fine words;
 started : {b : List ℕ} {d : Doc} → Start b d → Accepted d
 started s = accepted-words (s .rows) (s .document)
 
-pub demand-three : DemandThree
-demand-three =
+-- one proof for both modes
+module _ {Related : List ℕ → Update → Type 0} {Alike : List ℕ → Doc → Doc → Type 0} (shown : Shown Related Alike)
+    {test : List ℕ → Update → Bool} (decides : DecidedBy Related test) (none : test reads (delete deletes) ≡ false) where
+  demand-three : DemandThree Related Alike
+  demand-three =
+      record {
+        slots = λ b before plan n k r h at. h .2 .words at;
+        orders = λ b before plan n h d s o keeps one other last end run runs.
+            shown-runs shown decides (accepted-fits b (s .words) (s .batch)) (accepted-callable b (s .batch)) (started s)
+            (keeps-order decides b before plan n (s .words) h keeps) run runs;
+        works = λ b d s o calls last run i k e answer at f frame.
+            run-works (accepted-fits b (s .words) (s .batch)) (accepted-callable b (s .batch)) (started s) run at frame;
+        room = λ b d s o calls last run i k e answer at p x frame.
+            run-room (accepted-fits b (s .words) (s .batch)) (accepted-callable b (s .batch)) (started s) run at frame;
+        own-keeps = λ b before plan n words h. order-keeps decides b before plan n words h (own-order test (batchOf b));
+        starts = λ b d words batch rows document. record { words = words; batch = batch; rows = rows; document = document };
+        start = start;
+        moved = (moved-plan decides none, moved-keeps decides none);
+        runs = run-some;
+        calls = λ b o d last calls run i k at. run-has run at;
+      }
+
+-- nodes by conflicts; nodes and what is present below them by deep conflicts
+pub in-both-modes : InBothModes
+in-both-modes =
     record {
-      slots = λ b before plan n k r h at. h .2 .words at;
-      orders = λ b before plan n h d s o keeps one other last end run runs.
-          wider-runs (λ r u c. c) conflicting-decides (accepted-fits b (s .words) (s .batch)) (accepted-callable b (s .batch)) (started s)
-          (keeps-order b before plan n (s .words) h keeps) run runs;
-      works = λ b d s o calls last run i k e answer at f frame.
-          run-works (accepted-fits b (s .words) (s .batch)) (accepted-callable b (s .batch)) (started s) run at frame;
-      room = λ b d s o calls last run i k e answer at p x frame.
-          run-room (accepted-fits b (s .words) (s .batch)) (accepted-callable b (s .batch)) (started s) run at frame;
-      own-keeps = λ b before plan n words h. order-keeps b before plan n words h (own-order conflicting (batchOf b));
-      starts = λ b d words batch rows document. record { words = words; batch = batch; rows = rows; document = document };
-      start = start;
-      moved = (moved-plan, moved-keeps);
-      runs = run-some;
-      calls = λ b o d last calls run i k at. run-has run at;
+      node = demand-three nodes-shown conflicting-decides clear;
+      deep = demand-three below-shown deeply-decides clear-deep;
+      named-node = named-node;
+      named-deep = named-deep;
+      deeper = deeper;
+      also-nodes = λ r d e same. below-nodes same;
+      not-nodes = not-nodes;
+      slots-differ = slots-differ;
     }
 
 accepted-first : (p : List ℕ) (d : Doc) → Bits16 (d .rows) → deleteCheck p d ≡ Fine → Accepted d
@@ -228,8 +259,8 @@ besides =
       deep-at-delete = λ r p fine t sound v.
           let both = delete-patterns r p fine in
           lost-selected r p (patterns-read r p both) (delete-two r p fine) (patterns-update r p both) sound v;
-      numbers = λ b before plan n k u h at. h .2 .words at;
-      same-slot = λ b c wb wc ab ac k l r at there same v w s t. same-slot b c wb wc ab ac at there same s t;
+      numbers = λ m b before plan n k u h at. h .2 .words at;
+      same-slot = λ m b c wb wc ab ac k l r at there same v w s t. same-slot m b c wb wc ab ac at there same s t;
       readings = readings-agree;
       walker-refused = λ b n at why h. refused-stays b n at h;
       walker-over = λ b n at h. over-stays b n at h;
@@ -261,7 +292,7 @@ besides =
       witness-behind = λ r u before after n h. (h .long, h .behind);
       marks-behind = λ p d marks n h. (delete-length p d h, delete-behind p d h);
       tables-behind = λ p x d rows marks n used h. (insert-rows-length p x d h, insert-marks-length p x d h, insert-words-behind p x d h, insert-marks-behind p x d h);
-      plan-behind = λ b before after n h. (h .2 .kept, (λ i l. h .2 .behind i (rw (← h .1) l)));
+      plan-behind = λ m b before after n h. (h .2 .kept, (λ i l. h .2 .behind i (rw (← h .1) l)));
       words-behind = λ s line before after n h. behind (wordsOf s) before (h .1 ∙ sym (length-wordsOf s)) (h .2);
       digits-behind = λ ws before after n h. behind (lineOf ws) before (h .1 ∙ sym (length-lineOf ws)) (h .2);
       bytes-behind = λ s before after n h. behind (h .text) before (h .answered .1) (h .answered .2);
@@ -270,6 +301,7 @@ besides =
       tags-behind = λ t before after n h. behind (treeText t) before (h .1) (h .2);
       tree-behind = λ s before after n h. behind (rowsOf s) before (h .1) (h .2);
       output-enough = λ s before after why h. room-enough h refl;
+      mode-prints-none = λ m s text b kinds all prints. moded-plan all prints;
       input-enough = prints-first;
       examples = marked;
     }

@@ -1,7 +1,7 @@
--- An order in which a read has moved: the example's read goes before its delete, with which it does not conflict.
+-- An order in which a read has moved: the example's read goes before its delete, with which it does not conflict, deeply or not; and a read whose two slots differ.
 use Prim.Native.Nat.{ℕ, zero, suc, _≤_}
 use mathlib.Core.Path.{_≡_, refl}
-use mathlib.Core.Bool.{false}
+use mathlib.Core.Bool.{Bool, true, false}
 use mathlib.Core.List.{List, [], _∷_}
 use native.Mathlib.Omega.{arith}
 use lib.ListN.{getD}
@@ -11,27 +11,28 @@ use Rattle.tables.specs.Words.{Bits16}
 use Rattle.tables.specs.declared.refusal.Checked.the-variants.{Fine}
 use Rattle.tables.proofs.Accepted.{then-first}
 use Rattle.marked.proofs.Marked.{small, words-of}
-use Rattle.conflict.specs.Conflict.{Update, delete}
-use Rattle.conflict.specs.Meeting.{agree, landing, shared, sooner, shorter, longer, meeting, meetingOf}
-use Rattle.conflict.specs.Crossing.{deleteWay}
+use Rattle.conflict.specs.Conflict.{Update, delete, Conflict, Deep}
+use Rattle.conflict.specs.Meeting.{agree, landing, shared, sooner, least, onward, shorter, longer, meeting, fewest, meetingOf, fewestOf}
+use Rattle.conflict.specs.Crossing.{deleteWay, deleteDeep}
 use Rattle.order.specs.Model.{nearest, slot}
 use Rattle.order.specs.Frames.{Frame, read, update, At, here, there, updatesAt, earlier, number}
 use Rattle.order.proofs.Own.{read-first}
 use Rattle.order.proofs.Places.{at-below}
-use Rattle.order.proofs.Deciding.{conflicting}
+use Rattle.order.specs.Fitting.{DecidedBy}
+use Rattle.order.proofs.Deciding.{conflicting, conflicting-decides, deeply, deeply-decides}
 use Rattle.batch_parts.specs.Parts.{countCheck, stepsCheck}
 use Rattle.batch_frame.specs.Frames.{kindRight, restCheck, frameCheck, endOf}
 use Rattle.batch_check.specs.Batches.{updateOf, meaning, framesFrom, batchOf, checkFrom, batchCheck, planCheck}
-use Rattle.batch_plan.specs.Batch.{SlotIs, WordIs, Plan}
+use Rattle.batch_plan.specs.Batch.{SlotIs, WordIs, PlanOf}
 use Rattle.outcomes.specs.declared.plans.Planned.the-variants as planned
 use Rattle.batch_plan.proofs.Laws.{accepted-slot}
-use Rattle.demands.specs.Demands.{Keeps, Start, example}
+use Rattle.demands.specs.Demands.{Keeps, Start, example, below-read, only-root}
 use Rattle.demands.proofs.Keeping.{order-keeps}
 
-abbrev deletes : List ℕ
+abbrev pub deletes : List ℕ
 deletes = 0 ∷ 1 ∷ 1 ∷ 2 ∷ []
 
-abbrev reads : List ℕ
+abbrev pub reads : List ℕ
 reads = 0 ∷ 1 ∷ 1 ∷ 3 ∷ []
 
 abbrev frames : List (Frame (List ℕ) Update)
@@ -45,39 +46,73 @@ accepted : planCheck example 2 ≡ Fine
 unfolding planCheck batchCheck checkFrom frameCheck kindRight stepsCheck countCheck restCheck endOf patternCheck sizeCheck each axisCheck axisRight outputCheck batchOf framesFrom meaning updateOf
 accepted = refl
 
-clear : conflicting reads (delete deletes) ≡ false
+pub clear : conflicting reads (delete deletes) ≡ false
 unfolding deleteWay meetingOf meeting shorter longer sooner agree landing shared
 clear = refl
+
+pub clear-deep : deeply reads (delete deletes) ≡ false
+unfolding deleteDeep fewestOf fewest onward least sooner agree
+clear-deep = refl
 
 words : Bits16 example
 unfolding small
 words = words-of example refl
 
--- the read has no slot
-no-slot : SlotIs frames 1 reads 0
-unfolding slot nearest earlier updatesAt planCheck
-no-slot =
-    let at : At (batchOf example) 1 (read reads) = rw frames-are (there here) in
-    let none : 0 ≡ slot conflicting (batchOf example) 1 reads = rw (frames-are, clear) in
-    rw (← frames-are) (accepted-slot example words (then-first (batchCheck example) _ accepted) at 0 .1 none)
+-- by a relation that is decided, and does not hold of them
+module _ {Related : List ℕ → Update → Type 0} {test : List ℕ → Update → Bool} (decides : DecidedBy Related test) (none : test reads (delete deletes) ≡ false) where
+  -- the read has no slot
+  no-slot : SlotIs Related frames 1 reads 0
+  unfolding slot nearest earlier updatesAt planCheck
+  no-slot =
+      let at : At (batchOf example) 1 (read reads) = rw frames-are (there here) in
+      let is : 0 ≡ slot test (batchOf example) 1 reads = rw (frames-are, none) in
+      rw (← frames-are) (accepted-slot decides example words (then-first (batchCheck example) _ accepted) at 0 .1 is)
 
-word : {k : ℕ} {f : Frame (List ℕ) Update} → At frames k f → WordIs frames k f (getD (1 ∷ 0 ∷ []) k 0)
-unfolding number earlier
-word here = refl
-word (there here) = no-slot
-word (there (there p)) = absurd (omega (arith, at-below p))
+  word : {k : ℕ} {f : Frame (List ℕ) Update} → At frames k f → WordIs Related frames k f (getD (1 ∷ 0 ∷ []) k 0)
+  unfolding number earlier
+  word here = refl
+  word (there here) = no-slot
+  word (there (there p)) = absurd (omega (arith, at-below p))
 
-pub moved-plan : Plan example (0 ∷ 0 ∷ []) (1 ∷ 0 ∷ []) (planned.Frames 2)
-moved-plan = (accepted, rw frames-are, rw frames-are (record { words = word; behind = behind; kept = refl }))
-  where
-    behind : (i : ℕ) → 2 ≤ i → _≡_ {A = ℕ} (getD (1 ∷ 0 ∷ []) i 0) (getD (0 ∷ 0 ∷ []) i 0)
-    behind zero h = absurd (omega arith)
-    behind (suc zero) h = absurd (omega arith)
-    behind (suc (suc i)) h = refl
+  pub moved-plan : PlanOf Related example (0 ∷ 0 ∷ []) (1 ∷ 0 ∷ []) (planned.Frames 2)
+  moved-plan = (accepted, rw frames-are, rw frames-are (record { words = word; behind = behind; kept = refl }))
+    where
+      behind : (i : ℕ) → 2 ≤ i → _≡_ {A = ℕ} (getD (1 ∷ 0 ∷ []) i 0) (getD (0 ∷ 0 ∷ []) i 0)
+      behind zero h = absurd (omega arith)
+      behind (suc zero) h = absurd (omega arith)
+      behind (suc (suc i)) h = refl
 
-pub moved-keeps : Keeps (1 ∷ 0 ∷ []) (batchOf example) (1 ∷ 0 ∷ [])
-moved-keeps = order-keeps example (0 ∷ 0 ∷ []) (1 ∷ 0 ∷ []) 2 words moved-plan (rw frames-are (read-first conflicting (delete deletes) reads clear))
+  pub moved-keeps : Keeps (1 ∷ 0 ∷ []) (batchOf example) (1 ∷ 0 ∷ [])
+  moved-keeps = order-keeps decides example (0 ∷ 0 ∷ []) (1 ∷ 0 ∷ []) 2 words moved-plan (rw frames-are (read-first test (delete deletes) reads none))
 
 pub start : Start example (doc (0 ∷ 1 ∷ 0 ∷ 2 ∷ []) (0 ∷ 0 ∷ []) 2)
 unfolding small planCheck documentCheck usedCheck usedRight each nodeCheck parentRight markCheck markRight
 start = record { words = words; batch = then-first (batchCheck example) _ accepted; rows = words-of (0 ∷ 1 ∷ 0 ∷ 2 ∷ []) refl; document = refl }
+
+-- the second example: a delete below the node that is read
+below-are : batchOf below-read ≡ update (delete deletes) ∷ read only-root ∷ []
+unfolding batchOf framesFrom meaning updateOf endOf
+below-are = refl
+
+below-accepted : batchCheck below-read ≡ Fine
+unfolding batchCheck checkFrom frameCheck kindRight stepsCheck countCheck restCheck endOf patternCheck sizeCheck each axisCheck axisRight
+below-accepted = refl
+
+below-clear : conflicting only-root (delete deletes) ≡ false
+unfolding deleteWay meetingOf meeting shorter longer sooner agree landing shared
+below-clear = refl
+
+below-deep : deeply only-root (delete deletes) ≡ true
+unfolding deleteDeep fewestOf fewest onward least sooner agree
+below-deep = refl
+
+below-slot : {Related : List ℕ → Update → Type 0} {test : List ℕ → Update → Bool} → DecidedBy Related test → (w : ℕ) → w ≡ slot test (batchOf below-read) 1 only-root →
+    SlotIs Related (batchOf below-read) 1 only-root w
+unfolding small
+below-slot decides w is =
+    let at : At (batchOf below-read) 1 (read only-root) = rw below-are (there here) in
+    accepted-slot decides below-read (words-of below-read refl) below-accepted at w .1 is
+
+pub slots-differ : SlotIs Conflict (batchOf below-read) 1 only-root 0 × SlotIs Deep (batchOf below-read) 1 only-root 1
+unfolding slot nearest earlier updatesAt
+slots-differ = (below-slot conflicting-decides 0 (rw (below-are, below-clear)), below-slot deeply-decides 1 (rw (below-are, below-deep)))

@@ -10,4 +10,5 @@ pub mod Updates
 pub mod Agreeing
 pub mod Keeping
 pub mod Example
+pub mod Modes
 pub mod Demands

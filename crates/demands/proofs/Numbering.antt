@@ -20,7 +20,9 @@ use Rattle.doc_updates.specs.Updating as updating
 use Rattle.conflict.specs.Conflict.{Update, delete, insert}
 use Rattle.check_verdict.specs.Order.{roomCheck, patternsCheck, deepDeleteCheck, deepInsertCheck, deleteVerdictCheck, insertVerdictCheck, deepCheck, verdictCheck}
 use Rattle.check_evidence.specs.Order.{evidenceCheck, deleteEvidenceCheck, insertEvidenceCheck}
+use Rattle.batch_mode.specs.Modes.{modeCheck}
 use Rattle.batch_check.specs.Batches.{checkFrom, batchCheck, planCheck}
+use Rattle.batch_plan.specs.Batch.{planInCheck}
 use Rattle.text_line_in.specs.Lines.{characterCheck, lineCheck}
 use Rattle.text_names.specs.Names.{entryCheck, listCheck}
 use Rattle.text_pattern.specs.Texts.{Step}
@@ -30,6 +32,7 @@ use Rattle.text_pattern_out.specs.Writing.{numberCheck, writeTextCheck}
 use Rattle.text_xml.specs.Tags.{treeText}
 use Rattle.text_xml_in.specs.Reading.{tagsCheck, readTreeCheck}
 use Rattle.text_xml_out.specs.Writing.{writeTreeCheck}
+use Rattle.text_first_line.specs.FirstLine.{modeLineCheck}
 use Rattle.text_printer.specs.Printer.{takeCheck, Lines, bad, good, stopped}
 use Rattle.demands.specs.Demands.{Numbered}
 
@@ -171,6 +174,17 @@ frames-from b n at (suc most) =
 pub plans : (b : List ℕ) (words : ℕ) → OnlyNumbered (planCheck b words)
 unfolding planCheck batchCheck
 plans b words = search (chained, tested, frames-from, outputs)
+
+pub modes : (m : ℕ) → OnlyNumbered (modeCheck m)
+unfolding modeCheck
+modes m = search tested
+
+pub mode-lines : (ws : List ℕ) → OnlyNumbered (modeLineCheck ws)
+unfolding modeLineCheck
+mode-lines ws = search (chained, tested, modes)
+
+pub plans-in : (m : ℕ) (b : List ℕ) (words : ℕ) → OnlyNumbered (planInCheck m b words)
+plans-in m b words = search (chained, modes, plans)
 
 -- in a line
 line-of : (s : List ℕ) (line : ℕ) → OnlyNumbered (lineCheck s line)

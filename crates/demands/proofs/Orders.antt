@@ -43,7 +43,9 @@ use Rattle.batch_frame.specs.Frames.{frameCheck, frameOf, answered, frameAt}
 use Rattle.batch_walk.specs.Walking.{answerOf, walkCheck, stepAt}
 use Rattle.outcomes.specs.declared.frames.Stepped.the-variants as walker
 use Rattle.batch_check.specs.Batches.{planCheck}
-use Rattle.batch_plan.specs.Batch.{Plan}
+use Rattle.conflict.specs.Conflict.{Deep}
+use Rattle.batch_mode.specs.Modes.{relationOf, modeOf}
+use Rattle.batch_plan.specs.Batch.{PlanBy, Plan, PlanIn, planInCheck}
 use Rattle.outcomes.specs.declared.plans.Planned.{Planned}
 use Rattle.outcomes.specs.declared.plans.Planned.the-variants as planned
 use Rattle.text_line_in.specs.Lines.{lineCheck, ReadAs}
@@ -158,12 +160,16 @@ walks b n at = go (leb (length b) batchLimit) (ltb at (length b)) (frameCheck b 
     go true false c all = was-fine refl refl
     go false t c all = was-refused numbering.ten refl tt
 
+planned-by : {order : Checked} → OnlyNumbered order → (Related : List ℕ → Update → Type 0) (b before after : List ℕ) (x : Planned) → PlanBy order Related b before after x
+    → ByOrder order (ofPlanned x) (after ≡ before)
+planned-by all Related b before after (planned.Frames n) h = was-fine (h .0) refl
+planned-by all Related b before after (planned.Refused why) h = was-refused all (h .0) (h .1)
+
+pub plans-in : (m : ℕ) (b before after : List ℕ) (a : Answer) → Told ofPlanned (PlanIn m b before after) a → ByOrder (planInCheck m b (length before)) a (after ≡ before)
+plans-in m b before after a = told (planned-by (numbering.plans-in m b (length before)) (relationOf (modeOf m)) b before after)
+
 pub plans : (b before after : List ℕ) (a : Answer) → Told ofPlanned (Plan b before after) a → ByOrder (planCheck b (length before)) a (after ≡ before)
-plans b before after a = told one
-  where
-    one : (x : Planned) → Plan b before after x → ByOrder (planCheck b (length before)) (ofPlanned x) (after ≡ before)
-    one (planned.Frames n) h = was-fine (h .0) refl
-    one (planned.Refused why) h = was-refused (numbering.plans b (length before)) (h .0) (h .1)
+plans b before after a = told (planned-by (numbering.plans b (length before)) Deep b before after)
 
 -- lines
 pub lines-in : (s : List ℕ) (line : ℕ) (before after : List ℕ) (a : Answer) → Told ofParsed (ReadAs s line before after) a

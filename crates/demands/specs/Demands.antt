@@ -2,7 +2,7 @@
 --
 --   DemandOne     each call's refusals, by its order of checks
 --   DemandTwo     the verdict and its witness; reading, deleting and inserting, by embeddings
---   DemandThree   the plan; a batch run call by call, in any order that keeps the plan
+--   DemandThree   the plan; a batch run call by call, in any order that keeps the plan; in each of the two modes (InBothModes)
 --   EitherOrder   deletes one after another, in any order
 --   Besides       what else the documents say of the calls: deep verdicts, proposed trees, plans, the two readings, the walker, patterns as text,
 --                 trees as tags there and back, what stays, the program's two numbers, P1 to P15
@@ -50,6 +50,7 @@ pub record DemandOne : Type 0 where
   pub evidences : (r : List ℕ) (u : Update) (t : List ℕ) (a : Answer) → Told ofEvidence (Checks r u t) a → ByOrder (evidenceCheck r u t) a Nothing
   pub walks : (b : List ℕ) (n at : ℕ) → ByOrder (walkCheck b n at) (ofStepped (stepAt b n at)) Nothing
   pub plans : (b before after : List ℕ) (a : Answer) → Told ofPlanned (Plan b before after) a → ByOrder (planCheck b (length before)) a (after ≡ before)
+  pub plans-in : (m : ℕ) (b before after : List ℕ) (a : Answer) → Told ofPlanned (PlanIn m b before after) a → ByOrder (planInCheck m b (length before)) a (after ≡ before)
   pub lines-in : (s : List ℕ) (line : ℕ) (before after : List ℕ) (a : Answer) → Told ofParsed (ReadAs s line before after) a →
       ByOrder (lineCheck s line then outputCheck (length s / 4) (length before)) a (after ≡ before)
   pub lines-out : (ws before after : List ℕ) (a : Answer) → Told ofSpelled (WrittenAs ws before after) a →
@@ -66,6 +67,8 @@ pub record DemandOne : Type 0 where
   pub texts-place : (s : List ℕ) (n : ℕ) → (textCheck s ≡ refuse 14 7 n) ↔ WrongText RightText s n
   pub tags : (s : List ℕ) → (tagsCheck s ≡ Fine) ↔ RightTags s
   pub tags-place : (s : List ℕ) (n : ℕ) → (tagsCheck s ≡ refuse 14 7 n) ↔ WrongText RightTags s n
+  -- a number names a mode exactly if it is 1 or 2
+  pub modes : (m : ℕ) → (modeCheck m ≡ Fine) ↔ ((m ≡ 1) ⊎ (m ≡ 2))
   -- printing is refused by 7 alone; else its bytes are fixed, and a refusal that they tell is one of the numbered ones
   pub prints : (s before after : List ℕ) (answer : Printed) (h : PrintedAs s before after answer) →
       ByOrder (outputCheck (length (h .text)) (length before)) (ofPrinted answer) (after ≡ before)
@@ -77,6 +80,11 @@ pub record DemandOne : Type 0 where
   pub prints-offset : (s : List ℕ) (line before : ℕ) (why : Refusal) → Lines s 0 0 [] [] (stopped line before why) → (why .number ≡ 13 → ⊥) → (why .number ≡ 10 → ⊥) →
       (why .place ≡ before + offsetIn before why) × (offsetIn before why ≤ digitLimit / 4)
   pub prints-none : (before : ℕ) (why : Refusal) → (why .number ≡ 13) ⊎ (why .number ≡ 10) → offsetIn before why ≡ 0
+  -- a mode line is refused by 9, where its second word is missing or a third is there, or by 8 at its second; it is line 1, and where it is accepted all others are one further down
+  pub prints-mode : (s : List ℕ) (why : Refusal) → ModeLine s → modeLineCheck (firstWords s) ≡ Refused why →
+      Numbered why × ((why ≡ named 9 1) ⊎ ((why ≡ named 9 2) ⊎ (why ≡ named 8 1))) × Prints s (refusalText 1 (why .number) (why .place))
+  pub prints-below : (s : List ℕ) (line before : ℕ) (why : Refusal) → ModeLine s → modeLineCheck (firstWords s) ≡ Fine → Lines (behindFirst s) 0 0 [] [] (stopped line before why) →
+      Prints s (refusalText (1 + line) (why .number) (offsetIn before why))
 
 -- Demand 2: a verdict that is not refused says yes exactly if some finite document shows a difference, and then writes such a document,
 -- of the fewest nodes possible and never more than the steps of both patterns together less one
@@ -126,24 +134,47 @@ pub record Start (b : List ℕ) (d : Doc) : Type 0 where
 abbrev pub example : List ℕ
 example = 3 ∷ 2 ∷ 0 ∷ 1 ∷ 1 ∷ 2 ∷ 1 ∷ 2 ∷ 0 ∷ 1 ∷ 1 ∷ 3 ∷ []
 
--- Demand 3: the plan of an accepted batch gives each read its slot. Take any document that meets no refusal, a run of the batch by its calls in any
--- order that keeps the plan, and one in the batch's own order: they give the same, and no call is refused but an insert for room
-pub record DemandThree : Type 0 where
-  pub slots : (b before plan : List ℕ) (n k : ℕ) (r : List ℕ) → Plan b before plan (planned.Frames n) → At (batchOf b) k (read r) → SlotIs (batchOf b) k r (getD plan k 0)
-  pub orders : (b before plan : List ℕ) (n : ℕ) → Plan b before plan (planned.Frames n) → (d : Doc) → Start b d → (o : List ℕ) → Keeps plan (batchOf b) o →
-      (one other : List Called) (last end : Doc) → Run (batchOf b) o d one last → Run (batchOf b) (own (batchOf b)) d other end → SameRuns (batchOf b) one last other end
+-- another: delete a/b, then read a
+abbrev pub below-read : List ℕ
+below-read = 3 ∷ 2 ∷ 0 ∷ 1 ∷ 1 ∷ 2 ∷ 1 ∷ 1 ∷ 0 ∷ 1 ∷ []
+
+abbrev pub only-root : List ℕ
+only-root = 0 ∷ 1 ∷ []
+
+-- Demand 3, by the relation from which slots are taken and by what is the same to a read: the plan of an accepted batch gives each read its slot. Take any document
+-- that meets no refusal, a run of the batch by its calls in any order that keeps the plan, and one in the batch's own order: they give the same, and no call is refused
+-- but an insert for room
+pub record DemandThree (Related : List ℕ → Update → Type 0) (Alike : List ℕ → Doc → Doc → Type 0) : Type 0 where
+  pub slots : (b before plan : List ℕ) (n k : ℕ) (r : List ℕ) → PlanOf Related b before plan (planned.Frames n) → At (batchOf b) k (read r) → SlotIs Related (batchOf b) k r (getD plan k 0)
+  pub orders : (b before plan : List ℕ) (n : ℕ) → PlanOf Related b before plan (planned.Frames n) → (d : Doc) → Start b d → (o : List ℕ) → Keeps plan (batchOf b) o →
+      (one other : List Called) (last end : Doc) → Run (batchOf b) o d one last → Run (batchOf b) (own (batchOf b)) d other end → SameRuns Alike (batchOf b) one last other end
   pub works : (b : List ℕ) (d : Doc) → Start b d → (o : List ℕ) (calls : List Called) (last : Doc) → Run (batchOf b) o d calls last →
       (i k : ℕ) (e : Doc) (answer : Reply) → At calls i (called k e answer) → (f : Frame (List ℕ) Update) → At (batchOf b) k f → Works f answer
   -- an insert is refused for room exactly where its copies do not fit into the document that it met
   pub room : (b : List ℕ) (d : Doc) → Start b d → (o : List ℕ) (calls : List Called) (last : Doc) → Run (batchOf b) o d calls last →
       (i k : ℕ) (e : Doc) (answer : Reply) → At calls i (called k e answer) → (p x : List ℕ) → At (batchOf b) k (update (insert p x)) → NoRoom answer ↔ (fits p x e ≡ false)
   -- there are such orders and runs: the batch's own order keeps its plan, and so does one in which the example's read has moved; in every order of its frames there is a run, with a call for each
-  pub own-keeps : (b before plan : List ℕ) (n : ℕ) → Bits16 b → Plan b before plan (planned.Frames n) → Keeps plan (batchOf b) (own (batchOf b))
+  pub own-keeps : (b before plan : List ℕ) (n : ℕ) → Bits16 b → PlanOf Related b before plan (planned.Frames n) → Keeps plan (batchOf b) (own (batchOf b))
   pub starts : (b : List ℕ) (d : Doc) → Bits16 b → batchCheck b ≡ Fine → Bits16 (d .rows) → documentCheck d ≡ Fine → Start b d
   pub start : Start example (doc (0 ∷ 1 ∷ 0 ∷ 2 ∷ []) (0 ∷ 0 ∷ []) 2)
-  pub moved : Plan example (0 ∷ 0 ∷ []) (1 ∷ 0 ∷ []) (planned.Frames 2) × Keeps (1 ∷ 0 ∷ []) (batchOf example) (1 ∷ 0 ∷ [])
+  pub moved : PlanOf Related example (0 ∷ 0 ∷ []) (1 ∷ 0 ∷ []) (planned.Frames 2) × Keeps (1 ∷ 0 ∷ []) (batchOf example) (1 ∷ 0 ∷ [])
   pub runs : (b : List (Frame (List ℕ) Update)) (o : List ℕ) (d : Doc) → ((p k : ℕ) → At o p k → k < length b) → Runs b o d
   pub calls : (b : List (Frame (List ℕ) Update)) (o : List ℕ) (d last : Doc) (calls : List Called) → Run b o d calls last → (i k : ℕ) → At o i k → Has calls i k
+
+-- Demand 3 in both modes: node, where slots are taken from node conflicts and each read gives the same nodes; and deep, which a plan that names no mode is in, where they
+-- are taken from the deep verdict and each read gives the same nodes, and the same present nodes below each
+pub record InBothModes : Type 0 where
+  pub node : DemandThree Conflict SameNodes
+  pub deep : DemandThree Deep SameBelow
+  -- the plan that is named by 1 is the node plan, and the one that is named by 2 the deep plan, which is given where none is named
+  pub named-node : (b before after : List ℕ) (answer : Planned) → PlanIn 1 b before after answer ↔ PlanOf Conflict b before after answer
+  pub named-deep : (b before after : List ℕ) (answer : Planned) → PlanIn 2 b before after answer ↔ Plan b before after answer
+  -- a read's deep slot is never less than its node slot; what is the same in deep mode is the same in node mode; but not the other way round
+  pub deeper : (b : List (Frame (List ℕ) Update)) (k : ℕ) (r : List ℕ) (v w : ℕ) → SlotIs Conflict b k r v → SlotIs Deep b k r w → v ≤ w
+  pub also-nodes : (r : List ℕ) (d e : Doc) → SameBelow r d e → SameNodes r d e
+  pub not-nodes : ((r : List ℕ) (d e : Doc) → Sound d → Sound e → SameNodes r d e → SameBelow r d e) → ⊥
+  -- nor is a node slot enough for deep mode: read a, after a delete of a/b
+  pub slots-differ : SlotIs Conflict (batchOf below-read) 1 only-root 0 × SlotIs Deep (batchOf below-read) 1 only-root 1
 
 -- Deletes in either order: on a document that meets no refusal, each called by its promise on the marks that the one before it left
 pub record EitherOrder : Type 0 where
@@ -201,9 +232,9 @@ pub record Besides : Type 0 where
   pub evidence-conflict : (r : List ℕ) (u : Update) (t : List ℕ) (v : ℕ) (before after : List ℕ) (answer : Verdict) → Checks r u t (evidence.Shown v) →
       NodeVerdict r u before after answer → verdictCheck r u (length before) ≡ Fine → (n : ℕ) × (answer ≡ verdict.Conflict n) × (n ≤ nodes t)
   -- an update's plan word is its number among the updates, from 1; batches that agree on a read and the updates before it give it the same slot
-  pub numbers : (b before plan : List ℕ) (n k : ℕ) (u : Update) → Plan b before plan (planned.Frames n) → At (batchOf b) k (update u) → getD plan k 0 ≡ number (batchOf b) k
-  pub same-slot : (b c : List ℕ) → Bits16 b → Bits16 c → batchCheck b ≡ Fine → batchCheck c ≡ Fine → (k l : ℕ) (r : List ℕ) → At (batchOf b) k (read r) → At (batchOf c) l (read r) →
-      earlier (batchOf b) k ≡ earlier (batchOf c) l → (v w : ℕ) → SlotIs (batchOf b) k r v → SlotIs (batchOf c) l r w → v ≡ w
+  pub numbers : (m : Mode) (b before plan : List ℕ) (n k : ℕ) (u : Update) → PlanOf (relationOf m) b before plan (planned.Frames n) → At (batchOf b) k (update u) → getD plan k 0 ≡ number (batchOf b) k
+  pub same-slot : (m : Mode) (b c : List ℕ) → Bits16 b → Bits16 c → batchCheck b ≡ Fine → batchCheck c ≡ Fine → (k l : ℕ) (r : List ℕ) → At (batchOf b) k (read r) → At (batchOf c) l (read r) →
+      earlier (batchOf b) k ≡ earlier (batchOf c) l → (v w : ℕ) → SlotIs (relationOf m) (batchOf b) k r v → SlotIs (relationOf m) (batchOf c) l r w → v ≡ w
   -- the two readings agree at every node
   pub readings : (p t marks : List ℕ) → Bits16 t → ((v : ℕ) → v < nodes t → getD marks v 0 ≡ 0) → (table : ℕ) (before row before′ plain : List ℕ) →
       Read p table (doc t marks (nodes t)) before row Fine → PlainRead p t before′ plain Fine → (v : ℕ) → v < nodes t → getD row v 0 ≡ getD plain v 0
@@ -265,7 +296,7 @@ pub record Besides : Type 0 where
       (length marks ≡ length (d .marks)) × ((v : ℕ) → d .used ≤ v → getD marks v 0 ≡ mark d v)
   pub tables-behind : (p x : List ℕ) (d : Doc) (rows marks : List ℕ) (n used : ℕ) → Insert p x d (d .rows) (d .marks) rows marks (inserted.Copied n used) →
       (length rows ≡ length (d .rows)) × (length marks ≡ length (d .marks)) × ((i : ℕ) → 2 * used ≤ i → getD rows i 0 ≡ getD (d .rows) i 0) × ((v : ℕ) → used ≤ v → getD marks v 0 ≡ mark d v)
-  pub plan-behind : (b before after : List ℕ) (n : ℕ) → Plan b before after (planned.Frames n) → (length after ≡ length before) × ((i : ℕ) → n ≤ i → getD after i 0 ≡ getD before i 0)
+  pub plan-behind : (m : Mode) (b before after : List ℕ) (n : ℕ) → PlanOf (relationOf m) b before after (planned.Frames n) → (length after ≡ length before) × ((i : ℕ) → n ≤ i → getD after i 0 ≡ getD before i 0)
   pub words-behind : (s : List ℕ) (line : ℕ) (before after : List ℕ) (n : ℕ) → ReadAs s line before after (parsed.Words n) → drop n after ≡ drop n before
   pub digits-behind : (ws before after : List ℕ) (n : ℕ) → WrittenAs ws before after (spelled.Digits n) → drop n after ≡ drop n before
   pub bytes-behind : (s before after : List ℕ) (n : ℕ) → PrintedAs s before after (printed.Bytes n) → drop n after ≡ drop n before
@@ -273,6 +304,8 @@ pub record Besides : Type 0 where
   pub text-behind : (l p before after : List ℕ) (n : ℕ) → WriteText l p before after (printed.Bytes n) → drop n after ≡ drop n before
   pub tags-behind : (t before after : List ℕ) (n : ℕ) → WriteTree t before after (printed.Bytes n) → drop n after ≡ drop n before
   pub tree-behind : (s before after : List ℕ) (n : ℕ) → ReadTree s before after (parsed.Words n) → drop n after ≡ drop n before
+  -- a mode line prints nothing of its own: where all lines behind it are taken, their plan in its mode is what is printed without it
+  pub mode-prints-none : (m : Mode) (s text b kinds : List ℕ) → Lines s 0 0 [] [] (taken b kinds) → PrintsFrames m 1 s text → PrintsFrames m 0 s text
   -- the program's two numbers: so many bytes of output are always enough, and behind so many bytes of input nothing changes what is printed
   pub output-enough : (s before after : List ℕ) (why : Refusal) → PrintedAs s before after (printed.Refused why) → printedMost ≤ length before → ⊥
   pub input-enough : (s text : List ℕ) → Prints s text ↔ Prints (take inputMost s) text

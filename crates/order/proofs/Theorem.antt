@@ -1,5 +1,5 @@
--- Every order that keeps to the slots gives what the batch's own order gives: for any model whose updates keep documents sound and change
--- nothing that a read sees without a conflict.
+-- Every order that keeps to the slots gives what the batch's own order gives: for any model that keep documents sound and change
+-- nothing that is shown to a read without a conflict, whatever that is.
 use Prim.Native.Nat.{ℕ, _<_}
 use native.Mathlib.Omega.{arith}
 use native.Mathlib.Nat.{eq-or-lt-of-le}
@@ -7,7 +7,7 @@ use mathlib.Core.Path.{_≡_, sym, _∙_, subst}
 use mathlib.Core.Bool.{Bool, true}
 use mathlib.Core.List.{List}
 use mathlib.Core.Logic.{⊎-elim}
-use Rattle.order.specs.Model.{Model, slot, Fits, Order, met, Same}
+use Rattle.order.specs.Model.{slot, Fits, Order, met, Same}
 use Rattle.order.specs.Frames.{Frame, read, update, At}
 use Rattle.order.specs.Order.{Stands, Before, own}
 use Rattle.order.proofs.Places.{at-below}
@@ -47,11 +47,11 @@ module _ {Read Update : Type 0} {conflicts : Read → Update → Bool} {b : List
     after-conflicts = after-conflicts;
   }
 
-module _ {Doc Read Update : Type 0} {model : Model Doc Read Update} {conflicts : Read → Update → Bool}
-    {Fit : Frame Read Update → Type 0} {Sound : Doc → Type 0} (laws : Lawful model conflicts Fit Sound)
+module _ {Doc Read Update : Type 0} {apply : Update → Doc → Doc} {alike : Read → Doc → Doc → Type 0} {conflicts : Read → Update → Bool}
+    {Fit : Frame Read Update → Type 0} {Sound : Doc → Type 0} (laws : Lawful apply alike conflicts Fit Sound)
     {b : List (Frame Read Update)} (fits : Fits Fit b) {d : Doc} (sound : Sound d) where
   -- in an order each frame meets its stage
-  gives : {o : List ℕ} → Order conflicts b o → Gives model b d o d
+  gives : {o : List ℕ} → Order conflicts b o → Gives apply alike b d o d
   unfolding stage
   gives {o} order = walk laws fits sound o 0 (arranged order) (record {
     inside = omega arith;
@@ -59,19 +59,19 @@ module _ {Doc Read Update : Type 0} {model : Model Doc Read Update} {conflicts :
     left = λ {j} p h. order .every j (at-below p);
   })
 
-  meets : {o : List ℕ} → Order conflicts b o → {k : ℕ} {f : Frame Read Update} → At b k f → Meets model b d k (met model b o d k)
+  meets : {o : List ℕ} → Order conflicts b o → {k : ℕ} {f : Frame Read Update} → At b k f → Meets apply alike b d k (met apply b o d k)
   meets order {k} p = gives order .meets (order .every k (at-below p))
 
-  -- so each read gives the same set of nodes as in the batch's own order, each update meets the same document, and the last document is the same
-  pub order-same : {o : List ℕ} → Order conflicts b o → Same model b o d
+  -- so each read is shown the same as in the batch's own order, each update meets the same document, and the last document is the same
+  pub order-same : {o : List ℕ} → Order conflicts b o → Same apply alike b o d
   order-same {o} order =
       let own : Order conflicts b (own b) = own-order conflicts b in
       record {
-        reads = λ p v. meets order p .reads p v ∙ sym (meets own p .reads p v);
+        reads = λ p. laws .on (meets order p .reads p) (laws .back (meets own p .reads p));
         updates = λ p. meets order p .updates p ∙ sym (meets own p .updates p);
         document = gives order .document ∙ sym (gives own .document);
       }
 
   -- every document that a frame meets is sound
-  pub met-sound : (o : List ℕ) (k : ℕ) → Sound (met model b o d k)
-  met-sound o k = met-keeps model (sound-kept laws fits) o sound k
+  pub met-sound : (o : List ℕ) (k : ℕ) → Sound (met apply b o d k)
+  met-sound o k = met-keeps apply (sound-kept laws fits) o sound k

@@ -9,13 +9,6 @@ use lib.ListN.{length}
 use Rattle.order.specs.Frames.{Frame, read, update, At, earlier, number}
 use Rattle.order.specs.Order.{Stands, Before, own}
 
--- what reads and updates do
-pub record Model (Doc Read Update : Type 0) : Type 0 where
-  -- the document after an update; where the update is refused, the document as it was
-  pub apply : Update → Doc → Doc
-  -- whether a node is in the set that a read gives
-  pub sees : Read → Doc → ℕ → Bool
-
 -- each frame of the batch is fit
 pub record Fits {Read Update : Type 0} (Fit : Frame Read Update → Type 0) (b : List (Frame Read Update)) : Type 0 where
   pub fit : {k : ℕ} {f : Frame Read Update} → At b k f → Fit f
@@ -42,11 +35,12 @@ pub record Order {Read Update : Type 0} (conflicts : Read → Update → Bool) (
   -- and before every update that follows it in the batch
   pub before-later : {i j : ℕ} {r : Read} {u : Update} → At b i (read r) → At b j (update u) → i < j → Before o i j
 
-module _ {Doc Read Update : Type 0} (model : Model Doc Read Update) where
+-- apply: the document after an update; where the update is refused, the document as it was
+module _ {Doc Read Update : Type 0} (apply : Update → Doc → Doc) where
   -- the document after a frame: a read leaves it as it was
   abbrev pub act : Frame Read Update → Doc → Doc
   act (read r) d = d
-  act (update u) d = model .apply u d
+  act (update u) d = apply u d
 
   -- the document after frame k
   unfoldable pub ran : List (Frame Read Update) → ℕ → Doc → Doc
@@ -64,10 +58,10 @@ module _ {Doc Read Update : Type 0} (model : Model Doc Read Update) where
   met b [] d k = d
   met b (i ∷ o) d k = cond (eqb i k) d (met b o (ran b i d) k)
 
-  -- the order o gives what the batch's own order gives
-  pub record Same (b : List (Frame Read Update)) (o : List ℕ) (d : Doc) : Type 0 where
-    -- each read gives the same set of nodes
-    pub reads : {k : ℕ} {r : Read} → At b k (read r) → (v : ℕ) → model .sees r (met b o d k) v ≡ model .sees r (met b (own b) d k) v
+  -- the order o gives what the batch's own order gives; alike: two documents show the same to a read
+  pub record Same (alike : Read → Doc → Doc → Type 0) (b : List (Frame Read Update)) (o : List ℕ) (d : Doc) : Type 0 where
+    -- each read is shown the same
+    pub reads : {k : ℕ} {r : Read} → At b k (read r) → alike r (met b o d k) (met b (own b) d k)
     -- each update meets the same document, so it answers the same: the same inserts are refused for room
     pub updates : {k : ℕ} {u : Update} → At b k (update u) → met b o d k ≡ met b (own b) d k
     -- the last document is the same

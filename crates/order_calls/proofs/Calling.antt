@@ -35,7 +35,7 @@ use Rattle.conflict.specs.Conflict.{Update, delete, insert}
 use Rattle.order.specs.Frames.{Frame, read, update}
 use Rattle.order.specs.Model.{act}
 use Rattle.order_calls.specs.Calls.{Reply, reading, inserting, usedAfter, Call, reads, deletes, inserts, refusalOf, NoRoom, Works, Says}
-use Rattle.order_calls.specs.Running.{running}
+use Rattle.order_calls.specs.Running.{updated}
 use Rattle.order_calls.proofs.Callable.{Callable}
 
 -- the checks of a call
@@ -74,7 +74,7 @@ insert-tells Fine n used e = rw e
 insert-tells (Refused why) n used e = rw e
 
 -- the document after a call is that of the model
-pub call-leaves : {f : Frame (List ℕ) Update} {d e : Doc} {answer : Reply} → Accepted d → Callable f → Call f d answer e → e ≡ act running f d
+pub call-leaves : {f : Frame (List ℕ) Update} {d e : Doc} {answer : Reply} → Accepted d → Callable f → Call f d answer e → e ≡ act updated f d
 unfolding stored
 call-leaves accepted c (reads long h) = refl
 call-leaves accepted c (deletes {p = p} {d = d} h) = delete-leaves h (delete-fine p d accepted c)

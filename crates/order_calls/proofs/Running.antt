@@ -16,7 +16,7 @@ use Rattle.order.specs.Fitting.{FitFrame}
 use Rattle.order.proofs.Places.{at-one, by-kind}
 use Rattle.order.proofs.Stages.{ran-at, met-cases}
 use Rattle.order_calls.specs.Calls.{Reply, Call, Called, called, Run, over, next, Has, Runs, NoRoom, Works}
-use Rattle.order_calls.specs.Running.{running}
+use Rattle.order_calls.specs.Running.{updated}
 use Rattle.order_calls.proofs.Accepting.{updated-accepted}
 use Rattle.order_calls.proofs.Callable.{Callable}
 use Rattle.order_calls.proofs.Calling.{call-leaves, call-works, no-room-exactly, answers}
@@ -42,28 +42,28 @@ run-has (next at call rest) (there p) =
     record { met = h .met; answer = h .answer; at = there (h .at) }
 
 module _ {b : List (Frame (List ℕ) Update)} (fitting : Fits FitFrame b) (callable : Fits Callable b) where
-  kept : (f : Frame (List ℕ) Update) → FitFrame f → {d : Doc} → Accepted d → Accepted (act running f d)
+  kept : (f : Frame (List ℕ) Update) → FitFrame f → {d : Doc} → Accepted d → Accepted (act updated f d)
   kept (read r) fit h = h
   kept (update u) fit h = updated-accepted h u fit
 
   -- a call leaves what its frame makes of the document in the model, and leaves it accepted
-  leaves : {k : ℕ} {f : Frame (List ℕ) Update} {d e : Doc} {a : Reply} → Accepted d → At b k f → Call f d a e → e ≡ ran running b k d
-  leaves {d = d} accepted at call = call-leaves accepted (callable .fit at) call ∙ sym (ran-at running at d)
+  leaves : {k : ℕ} {f : Frame (List ℕ) Update} {d e : Doc} {a : Reply} → Accepted d → At b k f → Call f d a e → e ≡ ran updated b k d
+  leaves {d = d} accepted at call = call-leaves accepted (callable .fit at) call ∙ sym (ran-at updated at d)
 
   stays : {k : ℕ} {f : Frame (List ℕ) Update} {d e : Doc} {a : Reply} → Accepted d → At b k f → Call f d a e → Accepted e
   stays {f = f} accepted at call = rw (call-leaves accepted (callable .fit at) call) (kept f (fitting .fit at) accepted)
 
-  pub run-last : {o : List ℕ} {d last : Doc} {calls : List Called} → Accepted d → Run b o d calls last → last ≡ lastDoc running b o d
+  pub run-last : {o : List ℕ} {d last : Doc} {calls : List Called} → Accepted d → Run b o d calls last → last ≡ lastDoc updated b o d
   unfolding lastDoc
   run-last accepted over = refl
-  run-last accepted (next {o = o} at call rest) = run-last (stays accepted at call) rest ∙ ap (lastDoc running b o) (leaves accepted at call)
+  run-last accepted (next {o = o} at call rest) = run-last (stays accepted at call) rest ∙ ap (lastDoc updated b o) (leaves accepted at call)
 
   pub run-met : {o : List ℕ} {d last e : Doc} {calls : List Called} {i k : ℕ} {a : Reply} → Accepted d → Once o →
-      Run b o d calls last → At calls i (called k e a) → e ≡ met running b o d k
+      Run b o d calls last → At calls i (called k e a) → e ≡ met updated b o d k
   run-met accepted once (next {k = k} {o = o} {d = d} at call rest) here =
-      met-cases running (λ m. d ≡ m) b k o d k (λ e. refl) (λ other. absurd (other refl))
+      met-cases updated (λ m. d ≡ m) b k o d k (λ e. refl) (λ other. absurd (other refl))
   run-met {e = e} {k = j} accepted once (next {k = k} {o = o} {d = d} at call rest) (there {k = i} p) =
-      met-cases running (λ m. e ≡ m) b k o d j
+      met-cases updated (λ m. e ≡ m) b k o d j
       (λ same.
       let again : At o i k = subst (λ (n : ℕ). At o i n) (sym same) (run-place rest p) in
       absurd (omega (arith, once .once here (there again))))

@@ -7,32 +7,30 @@ use mathlib.Core.List.{List}
 use mathlib.Core.Logic.{_↔_, Iff·trans, Iff·symm}
 use Rattle.tables.specs.Documents.{Doc}
 use Rattle.tables.specs.declared.refusal.Checked.{Checked}
-use Rattle.selection.specs.Embeddings.{Selects}
-use Rattle.selection.proofs.Selecting.{selecting}
 use Rattle.doc_updates.proofs.Keeping.{Accepted}
-use Rattle.conflict.specs.Conflict.{Update, Conflict}
+use Rattle.conflict.specs.Conflict.{Update}
 use Rattle.order.specs.Model.{Fits, Order, met, Same}
 use Rattle.order.specs.Frames.{Frame, read, update, At}
 use Rattle.order.specs.Order.{own}
 use Rattle.order.specs.Fitting.{FitFrame, DecidedBy}
 use Rattle.order.proofs.Own.{own-order}
 use Rattle.order_calls.specs.Calls.{Reply, reading, Call, Called, called, Run, NoRoom, Says, SameRuns}
-use Rattle.order_calls.specs.Running.{running}
+use Rattle.order_calls.specs.Running.{updated}
 use Rattle.order_calls.proofs.Callable.{Callable}
 use Rattle.order_calls.proofs.Calling.{row-says, update-one}
-use Rattle.order_calls.proofs.Demand.{wider-same}
+use Rattle.order_calls.proofs.Demand.{Shown, shown-same}
 use Rattle.order_calls.proofs.Running.{Once, run-last, run-met, Made, run-made, made-frame}
 
 same-answer : {x y : Reply} → x ≡ y → NoRoom x ↔ NoRoom y
 same-answer e = (rw e (λ h. h), rw e (λ h. h))
 
-module _ {Related : List ℕ → Update → Type 0} (wider : (r : List ℕ) (u : Update) → Conflict r u → Related r u)
+module _ {Related : List ℕ → Update → Type 0} {Alike : List ℕ → Doc → Doc → Type 0} (shown : Shown Related Alike)
     {test : List ℕ → Update → Bool} (decides : DecidedBy Related test)
     {b : List (Frame (List ℕ) Update)} (fits : Fits FitFrame b) (callable : Fits Callable b) {d : Doc} (accepted : Accepted d)
     {o : List ℕ} (order : Order test b o)
     {one other : List Called} {last end : Doc} (run : Run b o d one last) (runs : Run b (own b) d other end) where
-  same : Same running b o d
-  same = wider-same wider decides fits (accepted .sound) order
+  same : Same updated Alike b o d
+  same = shown-same shown decides fits (accepted .sound) order
 
   once : Once o
   once = record { once = order .once }
@@ -48,15 +46,12 @@ module _ {Related : List ℕ → Update → Type 0} (wider : (r : List ℕ) (u :
     second : Made fits callable k f y
     second = run-made fits callable accepted runs q
 
-    -- a read's sets are the same by embeddings
-    sets-same : {r : List ℕ} → At b k (read r) → (v : ℕ) → Selects r e v ↔ Selects r f v
-    sets-same {r} at v =
-        let here : e ≡ met running b o d k = run-met fits callable accepted once run p in
-        let there : f ≡ met running b (own b) d k = run-met fits callable accepted once-own runs q in
-        let seen = rw (← here, ← there) at (same .reads at v) in
-        Iff·trans
-        (rw seen at (Iff·symm (selecting (fits .fit at .pattern) (first .accepted .sound) v)))
-        (selecting (fits .fit at .pattern) (second .accepted .sound) v)
+    -- a read is shown the same
+    shows-same : {r : List ℕ} → At b k (read r) → Alike r e f
+    shows-same {r} at =
+        let here : e ≡ met updated b o d k = run-met fits callable accepted once run p in
+        let there : f ≡ met updated b (own b) d k = run-met fits callable accepted once-own runs q in
+        rw (← here, ← there) at (same .reads at)
 
     -- an update met one document
     update-same : {u : Update} → At b k (update u) → x ≡ y
@@ -73,12 +68,12 @@ module _ {Related : List ℕ → Update → Type 0} (wider : (r : List ℕ) (u :
       let fit = fits .fit at .pattern in
       Iff·trans
       (row-says (m .accepted) (callable .fit at) fit (made-frame fits callable m at) v)
-      (Iff·trans (sets-same p q at v) (Iff·symm (row-says (n .accepted) (callable .fit at) fit (made-frame fits callable n at) v)))
+      (Iff·trans (shown .nodes (shows-same p q at) v) (Iff·symm (row-says (n .accepted) (callable .fit at) fit (made-frame fits callable n at) v)))
 
-  pub wider-runs : SameRuns b one last other end
-  wider-runs = record {
+  pub shown-runs : SameRuns Alike b one last other end
+  shown-runs = record {
     reads = rows-same;
-    sets = λ at p q. sets-same p q at;
+    shows = λ at p q. shows-same p q at;
     updates = λ at p q. update-same p q at;
     refusals = λ at p q. same-answer (update-same p q at);
     tables = run-last fits callable accepted run ∙ same .document ∙ sym (run-last fits callable accepted runs);

@@ -9,7 +9,6 @@ use Rattle.tables.specs.Documents.{Doc, doc}
 use Rattle.tables.specs.Checks.{refuse}
 use Rattle.tables.specs.declared.refusal.Checked.{Checked}
 use Rattle.tables.specs.declared.refusal.Checked.the-variants.{Fine, Refused}
-use Rattle.selection.specs.Embeddings.{Selects}
 use Rattle.doc_read.specs.Reading.{Read}
 use Rattle.doc_updates.specs.Updating.{deleteRefusal, Delete, Insert}
 use Rattle.outcomes.specs.declared.updates.Deleted.{Deleted}
@@ -83,14 +82,14 @@ pub record Says (row : List ℕ) (d : Doc) (v : ℕ) : Type 0 where
   pub used : v < d .used
   pub byte : getD row v 0 ≡ 1
 
--- two runs of a batch give the same: calls and last document of one, and of the other
-pub record SameRuns (b : List (Frame (List ℕ) Update)) (one : List Called) (last : Doc) (other : List Called) (end : Doc) : Type 0 where
+-- two runs of a batch give the same, where Alike says when two documents show the same to a read: calls and last document of one, and of the other
+pub record SameRuns (Alike : List ℕ → Doc → Doc → Type 0) (b : List (Frame (List ℕ) Update)) (one : List Called) (last : Doc) (other : List Called) (end : Doc) : Type 0 where
   -- each read's row says the same of every node
   pub reads : {k i j : ℕ} {r row line : List ℕ} {d e : Doc} {x y : Checked} → At b k (read r)
       → At one i (called k d (reading x row)) → At other j (called k e (reading y line)) → (v : ℕ) → Says row d v ↔ Says line e v
-  -- and so does selection by embeddings, in the documents that it met
-  pub sets : {k i j : ℕ} {r : List ℕ} {d e : Doc} {x y : Reply} → At b k (read r)
-      → At one i (called k d x) → At other j (called k e y) → (v : ℕ) → Selects r d v ↔ Selects r e v
+  -- and the documents that it met show it the same
+  pub shows : {k i j : ℕ} {r : List ℕ} {d e : Doc} {x y : Reply} → At b k (read r)
+      → At one i (called k d x) → At other j (called k e y) → Alike r d e
   -- each update answers the same
   pub updates : {k i j : ℕ} {u : Update} {d e : Doc} {x y : Reply} → At b k (update u) → At one i (called k d x) → At other j (called k e y) → x ≡ y
   -- so the same inserts are refused for room

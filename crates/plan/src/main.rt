@@ -13,8 +13,11 @@ ghost use lib.ListN.{length};
 ghost use Rattle.text_printer.specs.Enough.{printedMost, inputMost};
 ghost use Rattle.plan.specs.Plan.{TextAt, Within};
 
-// The input that counts: lines that are taken, and behind them one digit more than a line may have.
-const INPUT_MOST: usize = 4 * BATCH_LIMIT + FRAME_LIMIT + DIGIT_LIMIT + 1;
+// The lines of frames that count: those that are taken, and behind them one digit more than a line may have.
+const FRAMES_MOST: usize = 4 * BATCH_LIMIT + FRAME_LIMIT + DIGIT_LIMIT + 1;
+
+// The input that counts: above those lines a mode line may stand, eight digits and a line feed.
+const INPUT_MOST: usize = FRAMES_MOST + 9;
 
 fn input_room() -> [u8; INPUT_MOST]
     ensures { λ r. ⌜ length r ≡ inputMost ⌝ }

@@ -93,7 +93,7 @@ deleted-count p d = rw (count-ext (present (deleted p d)) (λ v. present d v && 
     (count-split (present d) (λ v. hits p (up (d .rows) v)) (d .used))
 
 -- present before and not hit: present after
-stays-present : (p : List ℕ) (d : Doc) (v : ℕ) → present d v ≡ true → hits p (up (d .rows) v) ≡ false → present (deleted p d) v ≡ true
+pub stays-present : (p : List ℕ) (d : Doc) (v : ℕ) → present d v ≡ true → hits p (up (d .rows) v) ≡ false → present (deleted p d) v ≡ true
 stays-present p d v e q = rw (present-deleted p d v, e, q) refl
 
 -- a delete by a pattern of two or more steps keeps a document sound

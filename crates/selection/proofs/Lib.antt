@@ -11,3 +11,5 @@ pub mod Deleting
 pub mod Keeping
 pub mod Grafting
 pub mod Inserting
+pub mod Showing
+pub mod Beneath

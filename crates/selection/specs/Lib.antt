@@ -3,4 +3,5 @@ pub mod Embeddings
 pub mod Ways
 pub mod Rows
 pub mod Lists
+pub mod Showing
 pub mod Operations

@@ -2,7 +2,7 @@
 use Prim.Native.Nat.{ℕ, _*_}
 use mathlib.Core.Path.{_≡_, refl, sym, ap, subst, _∙_}
 use mathlib.Core.List.{List}
-use lib.ListN.{drop}
+use lib.ListN.{length, drop}
 use Rattle.tables.specs.Documents.{Doc}
 use Rattle.doc_plain.specs.Plain.{PlainRead}
 use Rattle.doc_plain.proofs.Promise.{plain-one}
@@ -19,7 +19,10 @@ use Rattle.verdict_deep.specs.Promise.{DeepVerdict}
 use Rattle.verdict_deep.proofs.Promise.{deep-one}
 use Rattle.verdict_evidence.specs.Promise.{Checks}
 use Rattle.verdict_evidence.proofs.Promise.{evidence-one}
-use Rattle.batch_plan.specs.Batch.{Plan}
+use Rattle.conflict.specs.Conflict.{Deep}
+use Rattle.batch_mode.specs.Modes.{relationOf, modeOf}
+use Rattle.batch_check.specs.Batches.{planCheck}
+use Rattle.batch_plan.specs.Batch.{Plan, PlanIn, planInCheck}
 use Rattle.batch_plan.proofs.Laws.{plan-one}
 use Rattle.text_line_in.specs.Lines.{ReadAs}
 use Rattle.text_line_in.proofs.Promise.{read-one as line-one}
@@ -73,7 +76,10 @@ module _ {a b : Answer} (before one two : List ℕ) where
           (both .0, rw (nodes x) at (both .1))
 
   pub plan-told : (words : List ℕ) → Told ofPlanned (Plan words before one) a → Told ofPlanned (Plan words before two) b → (a ≡ b) × (one ≡ two)
-  plan-told words = told-one (λ _. one ≡ two) (plan-one words before)
+  plan-told words = told-one (λ _. one ≡ two) (plan-one Deep (planCheck words (length before)) words before)
+
+  pub plan-in-told : (mode : ℕ) (words : List ℕ) → Told ofPlanned (PlanIn mode words before one) a → Told ofPlanned (PlanIn mode words before two) b → (a ≡ b) × (one ≡ two)
+  plan-in-told mode words = told-one (λ _. one ≡ two) (plan-one (relationOf (modeOf mode)) (planInCheck mode words (length before)) words before)
 
   pub line-told : (s : List ℕ) (line : ℕ) → Told ofParsed (ReadAs s line before one) a → Told ofParsed (ReadAs s line before two) b → (a ≡ b) × (one ≡ two)
   line-told s line = told-one (λ _. one ≡ two) (line-one s line before one two)

@@ -1,11 +1,13 @@
-// Table 9: the batches of table 3 given to the plan printer, a line a frame, with one line damaged.
+// Table 9: the batches of table 3 given to the plan printer, a line a frame, with one line damaged; behind each batch's lines those of mode lines.
 use crate::damage::FIRST;
 use crate::damage::FOURTH;
 use crate::damage::SECOND;
 use crate::damage::THIRD;
+use crate::mode_lines;
 use crate::numbering::front;
 use crate::numbering::front_bytes;
 use crate::put::put;
+use crate::put::put_all;
 use crate::show::number;
 use crate::show::spaced;
 use crate::show::text;
@@ -31,11 +33,11 @@ const ALL: usize = DAMAGES + 3;
 // Words of the longest line, with one doubled.
 const WORDS: usize = 12;
 
-// Bytes of the input, one more than the longest has, 32 words in 5 lines.
-const ROOM: usize = 134;
+// Bytes of the input, one more than the longest has, 35 words in 7 lines.
+pub(crate) const ROOM: usize = 148;
 
 // Bytes of the longest output, a line of 13 for each of 5 frames.
-const PRINTED: usize = 65;
+pub(crate) const PRINTED: usize = 65;
 
 // Where no line has a word.
 const NOWHERE: usize = 16384;
@@ -80,13 +82,21 @@ fn kind_in(frame: &[u16], d: Damage) -> usize {
 }
 
 // A frame's line with its damage, if it has one.
-fn put_line(out: &mut [u8], at: usize, frame: &[u16], d: Damage) -> usize {
+pub(crate) fn put_line(out: &mut [u8], at: usize, frame: &[u16], d: Damage) -> usize {
     let mut words = [0u16; WORDS];
     let n = written(&mut words, frame, d, d);
     let kind = kind_in(frame, d);
     let start = put_front(out, at, kind);
     let end = put_words(out, start, front(&words, n));
     put_end(out, end, kind)
+}
+
+// The damage of no line.
+pub(crate) fn undamaged() -> Damage {
+    Damage {
+        word: NOWHERE,
+        kind: ALL,
+    }
 }
 
 // A damage with its word counted from another word on.
@@ -104,7 +114,7 @@ fn counted_from(d: Damage, from: usize) -> Damage {
 }
 
 // Where frame n ends that starts at a word of a batch.
-fn end_of(b: &[u16], n: usize, from: usize) -> usize {
+pub(crate) fn end_of(b: &[u16], n: usize, from: usize) -> usize {
     sloefertand_step(b, n, from).second
 }
 
@@ -119,9 +129,15 @@ fn part(b: &[u16], from: usize, to: usize) -> &[u16] {
     &b[from..to]
 }
 
-// Writes the lines of a batch with one damaged; their bytes.
-fn put_lines(out: &mut [u8], b: &[u16], frames: usize, d: Damage) -> usize {
-    let mut at = 0;
+// The lines of a batch with one damaged, behind the bytes written.
+pub(crate) fn put_lines(
+    out: &mut [u8],
+    start: usize,
+    b: &[u16],
+    frames: usize,
+    d: Damage,
+) -> usize {
+    let mut at = start;
     let mut from = 0;
     let mut n = 0;
     while n < frames {
@@ -174,21 +190,32 @@ fn show_printed(out: &[u8], frames: usize) {
     text(b"neither");
 }
 
-// The answer for a batch with one line damaged.
-fn show_answer(b: &[u16], frames: usize, d: Damage) {
-    let mut input = [0u8; ROOM];
+// The answer for an input that has so many frames.
+pub(crate) fn show_answer(input: &[u8], frames: usize) {
     let mut out = [0u8; PRINTED];
-    let n = put_lines(&mut input, b, frames, d);
-    let a = sloefertand_print(front_bytes(&input, n), &mut out);
+    let a = sloefertand_print(input, &mut out);
     text(b" ");
     show_printed(front_bytes(&out, a.first), frames);
+}
+
+// The answer for a batch with one line damaged, behind some lines.
+pub(crate) fn show_behind(before: &[u8], b: &[u16], frames: usize, d: Damage) {
+    let mut input = [0u8; ROOM];
+    let at = put_all(&mut input, 0, before);
+    let n = put_lines(&mut input, at, b, frames, d);
+    show_answer(front_bytes(&input, n), frames);
+}
+
+// The same with no lines before it.
+fn show_damaged(b: &[u16], frames: usize, d: Damage) {
+    show_behind(&[], b, frames, d);
 }
 
 // The answers for some damages, and the end of their line.
 fn show_answers(b: &[u16], frames: usize, w: usize, first: usize, behind: usize) {
     let mut kind = first;
     while kind < behind {
-        show_answer(b, frames, Damage { word: w, kind });
+        show_damaged(b, frames, Damage { word: w, kind });
         kind += 1;
     }
     text(b"\n");
@@ -223,6 +250,7 @@ fn texts_of(name: usize, b: &[u16], frames: usize) {
 fn lines(name: usize, b: &[u16], frames: usize) {
     words_of(name, b, frames);
     texts_of(name, b, frames);
+    mode_lines::lines(name, b, frames);
 }
 
 pub(crate) fn table() {

@@ -8,6 +8,7 @@ mod evidence;
 mod large_evidence;
 mod line_damage;
 mod long_reads;
+mod mode_lines;
 mod numbering;
 mod paired;
 mod pairs;

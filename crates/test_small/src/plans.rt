@@ -1,4 +1,4 @@
-// Table 4: plans of random batches from a fixed seed.
+// Table 4: plans of random batches from a fixed seed, in both modes.
 use crate::numbering::INSERTED;
 use crate::numbering::PATTERNS;
 use crate::numbering::SINGLE;
@@ -8,6 +8,7 @@ use crate::numbering::tree;
 use crate::show::digit;
 use crate::show::text;
 use sloefertand::batches::sloefertand_plan;
+use sloefertand::batches::sloefertand_plan_in;
 
 // How many batches.
 const BATCHES: usize = 2000;
@@ -17,6 +18,9 @@ const FRAMES: usize = 16;
 
 // Words of the longest.
 const WORDS: usize = 256;
+
+// The mode of a plan by node conflicts alone.
+const NODE: usize = 1;
 
 // The state after a draw.
 fn moved(s: u64) -> u64 {
@@ -120,23 +124,49 @@ fn show_word(w: u16) {
     text(&[digit(n / 16), digit(n)]);
 }
 
-// A plan's line, by an output of just its length.
-fn planned(b: &[u16], out: &mut [u16]) {
-    let a = sloefertand_plan(b, out);
-    if a.refusal != 0 {
-        text(b"refused\n");
+// What was planned into an output of just its length.
+fn show_planned(refusal: usize, out: &[u16]) {
+    if refusal != 0 {
+        text(b"refused");
         return;
     }
     show_words(out);
-    text(b"\n");
 }
 
-fn show_plan(b: &[u16], frames: usize) {
+// The node plan, its mode named.
+fn node_planned(b: &[u16], out: &mut [u16]) {
+    let a = sloefertand_plan_in(NODE, b, out);
+    show_planned(a.refusal, out);
+}
+
+// The deep plan, by a call that names no mode.
+fn deep_planned(b: &[u16], out: &mut [u16]) {
+    let a = sloefertand_plan(b, out);
+    show_planned(a.refusal, out);
+}
+
+fn show_node(b: &[u16], frames: usize) {
     let mut out = [255u16; FRAMES];
     if FRAMES < frames {
         return;
     }
-    planned(b, &mut out[0..frames]);
+    node_planned(b, &mut out[0..frames]);
+}
+
+fn show_deep(b: &[u16], frames: usize) {
+    let mut out = [255u16; FRAMES];
+    if FRAMES < frames {
+        return;
+    }
+    deep_planned(b, &mut out[0..frames]);
+}
+
+// A batch's line: its two plans.
+fn show_plans(b: &[u16], frames: usize) {
+    show_node(b, frames);
+    text(b" ");
+    show_deep(b, frames);
+    text(b"\n");
 }
 
 fn show_words(t: &[u16]) {
@@ -153,7 +183,7 @@ fn batch_from(state: u64) -> u64 {
     let first = moved(state);
     let frames = drawn(first, FRAMES) % FRAMES + 1;
     let d = drafted(&mut b, frames, first);
-    show_plan(front(&b, d.at), frames);
+    show_plans(front(&b, d.at), frames);
     d.state
 }
 

@@ -5,6 +5,7 @@ use crate::show::text;
 use c_answer::answer::Answer;
 use check::same;
 use sloefertand::batches::sloefertand_plan;
+use sloefertand::batches::sloefertand_plan_in;
 use sloefertand::batches::sloefertand_step;
 use sloefertand::checking::sloefertand_check_document;
 use sloefertand::checking::sloefertand_check_pattern;
@@ -115,7 +116,7 @@ pub(crate) fn evidence(name: &[u8], r: &[u16], p: &[u16], x: &[u16], t: &[u16]) 
     }
 }
 
-// The walker's step, and the plan.
+// The walker's step, and the plans.
 pub(crate) fn plan(name: &[u8], x: &[u16], t: &mut [u16], u: usize, v: usize) {
     if same(name, b"step") {
         answer(sloefertand_step(x, u, v), 4);
@@ -123,6 +124,10 @@ pub(crate) fn plan(name: &[u8], x: &[u16], t: &mut [u16], u: usize, v: usize) {
     }
     if same(name, b"plan") {
         answer(sloefertand_plan(x, t), 1);
+        return;
+    }
+    if same(name, b"plan in") {
+        answer(sloefertand_plan_in(u, x, t), 1);
     }
 }
 

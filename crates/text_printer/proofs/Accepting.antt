@@ -16,7 +16,8 @@ use Rattle.text_digits.specs.Digits.{wordsOf}
 use Rattle.batch_check.specs.Batches.{framesFrom, batchOf, checkFrom, batchCheck, planCheck}
 use Rattle.batch_frame.proofs.Accepted.{steps-room}
 use Rattle.batch_check.proofs.Frames.{frames-on, frames-off, check-on, check-off}
-use Rattle.text_printer.specs.Printer.{lineAt, takeCheck, stopped, taken, Lines, none, bad, good}
+use Rattle.text_first_line.specs.FirstLine.{lineAt}
+use Rattle.text_printer.specs.Printer.{takeCheck, stopped, taken, Lines, none, bad, good}
 use Rattle.text_printer.proofs.Going.{taken-within, taken-frame, taken-end, taken-below}
 use Rattle.text_printer.proofs.Longer.{frame-longer, end-longer}
 

@@ -2,33 +2,33 @@
 use Prim.Native.Nat.{ℕ, zero, suc, _+_, _-_, _*_, _≤_, _<_, min}
 use mathlib.Core.Path.{_≡_, refl, sym, _∙_, ap}
 use mathlib.Core.Bool.{Bool, true, false, cond}
-use mathlib.Core.List.{List, _++_}
+use mathlib.Core.List.{List, [], _∷_, _++_}
 use mathlib.Core.Logic.{inl, inr, _↔_}
 use native.Mathlib.Decide.{decLt}
+use native.Mathlib.Nat.{zero-add, suc-add}
 use native.Mathlib.Omega.{arith}
 use lib.Dec.{eqb}
-use lib.ListN.{length, getD, take, drop, length-append, length-take, length-drop}
-use lib.Seq.{getD-take, getD-drop, take-take, ext-getD}
+use lib.ListN.{length, getD, take, drop, length-append, length-take}
+use lib.Seq.{getD-take, getD-drop, take-take, take-nil, ext-getD}
 use Rattle.tables.specs.Limits.{digitLimit}
 use Rattle.tables.specs.Checks.{refuse}
 use Rattle.tables.specs.declared.refusal.Checked.the-variants.{Fine}
 use Rattle.text_digits.specs.Digits.{wordsOf}
-use Rattle.text_digits.proofs.Returning.{length-lineOf}
 use Rattle.text_parts.specs.Next.{nextFrom, next}
 use Rattle.text_parts.proofs.Finding.{from-least, next-least, next-most}
 use Rattle.text_line_in.specs.Lines.{lineCheck}
-use Rattle.text_line_in.proofs.Promise.{line-short, accepted-returns}
+use Rattle.text_line_in.proofs.Promise.{line-short, line-some}
 use Rattle.outcomes.specs.declared.texts.Printed.{Printed}
 use Rattle.batch_frame.specs.Frames.{kind}
-use Rattle.text_printer.specs.Printer.{lineEnd, lineAt, takeCheck, Outcome, Lines, none, bad, good, Prints, refusal, plan, PrintedAs}
-use Rattle.text_printer.specs.Enough.{inputMost}
-use Rattle.text_printer.proofs.Taking.{Only, line-only}
+use Rattle.batch_mode.specs.Modes.{modeOf}
+use Rattle.batch_mode.specs.declared.Mode.{Mode}
+use Rattle.text_first_line.specs.FirstLine.{lineEnd, lineAt, firstWords, ModeLine, modeLineCheck, behindFirst}
+use Rattle.text_first_line.proofs.Lines.{Only, line-only, line-long, formed-long}
+use Rattle.text_first_line.proofs.Laws.{mode-line-long}
+use Rattle.text_printer.specs.Printer.{takeCheck, Outcome, Lines, none, bad, good, PrintsFrames, refusal, plan, Prints, unnamed, named, misnamed, PrintedAs}
+use Rattle.text_printer.specs.Enough.{framesMost, inputMost}
 use Rattle.text_printer.proofs.Going.{taken-line}
 use Rattle.text_printer.proofs.Accepting.{Sofar, sofar-none, sofar-more}
-
--- a line is as long as from its place to its end
-line-long : (s : List ℕ) (at : ℕ) → at ≤ length s → length (lineAt s at) ≡ lineEnd s at - at
-line-long s at h = rw (length-take, length-drop) (omega (arith, next-most 10 s at h))
 
 -- a line with more bytes than a line may have digits is refused by 13, whatever they are
 over-long : (l : List ℕ) (n : ℕ) (b : List ℕ) → digitLimit < length l → takeCheck l n b ≡ refuse 13 6 (n + 1)
@@ -38,10 +38,6 @@ over-long l n b h = go (line-only l (n + 1))
     go : Only (record { number = 13; table = 6; place = n + 1 }) (lineCheck l (n + 1)) → takeCheck l n b ≡ refuse 13 6 (n + 1)
     go (inl fine) = absurd (omega (arith, line-short l (n + 1) fine))
     go (inr why) = rw why refl
-
--- a line that is taken has four digits a word
-taken-long : (l : List ℕ) (n : ℕ) (b : List ℕ) → takeCheck l n b ≡ Fine → length l ≡ 4 * length (wordsOf l)
-taken-long l n b e = sym (ap length (accepted-returns l (n + 1) (taken-line l n b e))) ∙ length-lineOf (wordsOf l)
 
 -- two inputs whose first bytes are the same
 module _ (most : ℕ) (s t : List ℕ) (same : take most s ≡ take most t) where
@@ -99,7 +95,7 @@ module _ (most : ℕ) (s t : List ℕ) (same : take most s ≡ take most t) wher
             ∙ sym (over-long (lineAt t at) n b (omega (arith, same-end at, line-long t at (omega (arith, still-here)))))
 
   -- line by line: n lines of words b lie before at, four digits a word and a line feed each
-  module _ (enough : inputMost ≤ most) where
+  module _ (enough : framesMost ≤ most) where
     lines-same : {at n : ℕ} {b kinds : List ℕ} {o : Outcome} → Lines s at n b kinds o → Sofar n b kinds → at ≤ 4 * length b + n → Lines t at n b kinds o
     lines-same {at} (none h) so begins = none {at = at} (omega (arith, same-length, so .within, so .few))
     lines-same {at} {n} {b} (bad h e) so begins =
@@ -109,25 +105,66 @@ module _ (most : ℕ) (s t : List ℕ) (same : take most s ≡ take most t) wher
         let room : at + digitLimit < most = omega (arith, so .within, so .few) in
         let long = line-long s at (omega arith) in
         let short = line-short (lineAt s at) (n + 1) (taken-line (lineAt s at) n b e) in
-        let digits = taken-long (lineAt s at) n b e in
+        let digits = formed-long (lineAt s at) (n + 1) (taken-line (lineAt s at) n b e) in
         let line : lineAt s at ≡ lineAt t at = line-same at h (omega arith) (omega arith) in
         let end : lineEnd s at ≡ lineEnd t at = omega (arith, same-end at) in
         let next : lineEnd s at + 1 ≤ 4 * length (b ++ wordsOf (lineAt s at)) + (n + 1) = rw length-append (omega (arith, next-least 10 s at)) in
         let more = sofar-more (lineAt s at) (kind (b ++ wordsOf (lineAt s at)) (length b)) e so in
         good (still-here at h (omega arith)) (sym (check-same at h (omega arith) room n b) ∙ e) (rw (line, end) at (lines-same lines more next))
 
+  -- the first line of both is a mode line, or of neither
+  module _ (room : digitLimit < most) (mode : ModeLine s) where
+    first-same : lineAt s 0 ≡ lineAt t 0
+    first-same =
+        let long = line-long s 0 (omega arith) in
+        let some = line-some (lineAt s 0) 1 (mode .formed) in
+        let short = line-short (lineAt s 0) 1 (mode .formed) in
+        line-same 0 (omega (arith, next-most 10 s 0 (omega arith))) (omega arith) (omega arith)
+
+    mode-same : ModeLine t
+    mode-same = record { formed = rw first-same at (mode .formed); kind = rw first-same at (mode .kind) }
+
+-- lines of frames whose first bytes are the same print the same
+frames-same : {m : Mode} {above : ℕ} (most : ℕ) {s t text : List ℕ} → framesMost ≤ most → take most s ≡ take most t → PrintsFrames m above s text → PrintsFrames m above t text
+frames-same most {s} {t} enough same (refusal lines) = refusal (lines-same most s t same enough lines sofar-none (omega arith))
+frames-same most {s} {t} enough same (plan lines p) = plan (lines-same most s t same enough lines sofar-none (omega arith)) p
+
+-- the first bytes behind a place
+take-behind : (n k : ℕ) (l : List ℕ) → drop n (take (n + k) l) ≡ take k (drop n l)
+take-behind zero k l = ap (λ (m : ℕ). take m l) (zero-add k)
+take-behind (suc n) k [] = ap (drop (suc n)) (take-nil (suc n + k)) ∙ sym (take-nil k)
+take-behind (suc n) k (x ∷ xs) = ap (λ (m : ℕ). drop (suc n) (take m (x ∷ xs))) (suc-add n k) ∙ take-behind n k xs
+
 -- inputs whose first bytes are the same print the same
-pub prints-same : {s t text : List ℕ} → take inputMost s ≡ take inputMost t → Prints s text → Prints t text
-prints-same {s} {t} same (refusal lines) = refusal (lines-same inputMost s t same (omega arith) lines sofar-none (omega arith))
-prints-same {s} {t} same (plan lines p) = plan (lines-same inputMost s t same (omega arith) lines sofar-none (omega arith)) p
+module _ (s t : List ℕ) (same : take inputMost s ≡ take inputMost t) where
+  module _ (mode : ModeLine s) where
+    line : lineAt s 0 ≡ lineAt t 0
+    line = first-same inputMost s t same (omega arith) mode
+
+    named-too : ModeLine t
+    named-too = mode-same inputMost s t same (omega arith) mode
+
+    -- behind the nine bytes of a mode line there are as many as the lines of frames need
+    behind-same : modeLineCheck (firstWords s) ≡ Fine → take framesMost (behindFirst s) ≡ take framesMost (behindFirst t)
+    behind-same e =
+        let here : lineEnd s 0 ≡ 8 = mode-line-long s mode e in
+        let there : lineEnd t 0 ≡ 8 = mode-line-long t named-too (rw line at e) in
+        rw (here, there) (sym (take-behind 9 framesMost s) ∙ ap (drop 9) same ∙ take-behind 9 framesMost t)
+
+  pub prints-same : {text : List ℕ} → Prints s text → Prints t text
+  prints-same (unnamed x p) = unnamed (λ mode. x (mode-same inputMost t s (sym same) (omega arith) mode)) (frames-same inputMost (omega arith) same p)
+  prints-same {text} (named x e p) =
+      let p′ : PrintsFrames (modeOf (getD (firstWords s) 1 0)) 1 (behindFirst t) text = frames-same framesMost (omega arith) (behind-same x e) p in
+      named (named-too x) (rw (line x) at e) (rw (line x) at p′)
+  prints-same (misnamed x e) = misnamed (named-too x) (rw (line x) at e)
 
 first-bytes : (s : List ℕ) → take inputMost (take inputMost s) ≡ take inputMost s
 first-bytes s = take-take inputMost inputMost s (omega arith)
 
 -- what an input prints, its first bytes print, and back
 pub prints-first : (s text : List ℕ) → Prints s text ↔ Prints (take inputMost s) text
-prints-first s text = (prints-same (sym (first-bytes s)), prints-same (first-bytes s))
+prints-first s text = (prints-same s (take inputMost s) (sym (first-bytes s)), prints-same (take inputMost s) s (first-bytes s))
 
 -- an answer that meets the promise for the first bytes meets it for the input
 pub printed-first : (s before after : List ℕ) (answer : Printed) → PrintedAs (take inputMost s) before after answer → PrintedAs s before after answer
-printed-first s before after answer e = record { text = e .text; prints = prints-same (first-bytes s) (e .prints); answered = e .answered }
+printed-first s before after answer e = record { text = e .text; prints = prints-same (take inputMost s) s (first-bytes s) (e .prints); answered = e .answered }

@@ -20,7 +20,8 @@ use Rattle.batch_frame.proofs.Ending.{end-behind}
 use Rattle.text_digits.specs.Digits.{wordsOf}
 use Rattle.text_parts.proofs.Finding.{next-least, next-most}
 use Rattle.text_line_in.specs.Lines.{lineCheck}
-use Rattle.text_printer.specs.Printer.{lineEnd, lineAt, takeCheck, Outcome, Lines, none, bad, good}
+use Rattle.text_first_line.specs.FirstLine.{lineEnd, lineAt}
+use Rattle.text_printer.specs.Printer.{takeCheck, Outcome, Lines, none, bad, good}
 use Rattle.text_printer.specs.Reading.{Roomy, TakenAs, RanAs}
 use Rattle.text_printer.specs.declared.Taken.{Taken}
 use Rattle.text_printer.specs.declared.Taken.the-variants as took

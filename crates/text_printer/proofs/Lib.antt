@@ -8,3 +8,4 @@ pub mod Promise
 pub mod Settled
 pub mod Enough
 pub mod Behind
+pub mod Moded

@@ -22,9 +22,10 @@ use Rattle.text_digits.specs.Digits.{wordsOf}
 use Rattle.text_digits.proofs.Returning.{length-wordsOf}
 use Rattle.text_line_in.specs.Lines.{lineCheck}
 use Rattle.text_line_in.proofs.Promise.{line-short, line-some}
-use Rattle.text_printer.specs.Printer.{lineAt, takeCheck, offsetIn, stopped, Lines, bad, good}
+use Rattle.text_first_line.specs.FirstLine.{lineAt}
+use Rattle.text_first_line.proofs.Lines.{Only, line-only}
+use Rattle.text_printer.specs.Printer.{takeCheck, offsetIn, stopped, Lines, bad, good}
 use Rattle.text_printer.specs.Faults.{LineFault, in-frame, left-over}
-use Rattle.text_printer.proofs.Taking.{Only, line-only}
 
 -- the offset by the branches of the code
 module _ (before : ℕ) (r : Refusal) where

@@ -1,57 +1,30 @@
 -- Taking one line: its words behind those in use, then its checks as a frame.
-use Prim.Native.Nat.{ℕ, zero, suc, _+_, _-_, _/_, _%_, _≤_, min}
+use Prim.Native.Nat.{ℕ, _+_, _-_, _/_, _≤_, min}
 use mathlib.Core.Path.{_≡_, refl, sym, _∙_, ap}
-use mathlib.Core.Bool.{Bool, true, false, _&&_}
 use mathlib.Core.List.{List, _++_, append-assoc}
-use mathlib.Core.Logic.{_⊎_, inl, inr}
+use mathlib.Core.Logic.{inl, inr}
 use native.Mathlib.Nat.{sub-zero}
 use native.Mathlib.Omega.{arith}
-use lib.Dec.{eqb, ltb, leb}
-use lib.ListN.{length, getD, take, drop, length-append, length-take, length-drop}
+use lib.ListN.{length, take, drop, length-append, length-take, length-drop}
 use lib.Seq.{take-at, length-take-le}
 use Rattle.tables.specs.Limits.{digitLimit}
-use Rattle.tables.specs.Checks.{_then_, test, refuse, each, outputCheck}
+use Rattle.tables.specs.Checks.{refuse, outputCheck}
 use Rattle.tables.specs.declared.refusal.Refusal.{Refusal}
 use Rattle.tables.specs.declared.refusal.Checked.{Checked}
 use Rattle.tables.specs.declared.refusal.Checked.the-variants.{Fine, Refused}
 use Rattle.tables.proofs.Accepted.{then-first}
 use Rattle.check_size.proofs.Branches.{output-long}
-use Rattle.text_digits.specs.Digits.{digitOf, wordsOf}
+use Rattle.text_digits.specs.Digits.{wordsOf}
 use Rattle.text_digits.proofs.Returning.{length-wordsOf}
-use Rattle.text_line_in.specs.Lines.{characterCheck, lineCheck, ReadAs}
+use Rattle.text_line_in.specs.Lines.{lineCheck, ReadAs}
 use Rattle.outcomes.specs.declared.texts.Parsed.{Parsed}
 use Rattle.outcomes.specs.declared.texts.Parsed.the-variants as parsed
 use Rattle.text_line_in.proofs.Promise.{line-short}
+use Rattle.text_first_line.proofs.Lines.{Only, line-only}
 use Rattle.text_printer.specs.Printer.{takeCheck}
 use Rattle.text_printer.specs.Reading.{Roomy, TakenAs}
 use Rattle.text_printer.specs.declared.Taken.the-variants as took
 use Rattle.batch_whole.specs.Whole.{wholeCheck}
-
--- a check is fine, or is this refusal
-abbrev pub Only : Refusal → Checked → Type 0
-Only r c = (c ≡ Fine) ⊎ (c ≡ Refused r)
-
-only-test : (r : Refusal) (t : Bool) → Only r (test t (Refused r))
-only-test r true = inl refl
-only-test r false = inr refl
-
-only-then : (r : Refusal) (a b : Checked) → Only r a → Only r b → Only r (a then b)
-only-then r a b (inl e) y = rw e y
-only-then r a b (inr e) y = inr (rw e refl)
-
-only-each : (r : Refusal) (check : ℕ → Checked) → ((i : ℕ) → Only r (check i)) → (v k : ℕ) → Only r (each check v k)
-unfolding each
-only-each r check all v zero = inl refl
-only-each r check all v (suc k) = only-then r (check v) (each check (suc v) k) (all v) (only-each r check all (suc v) k)
-
--- a line is refused by 13 alone
-pub line-only : (l : List ℕ) (line : ℕ) → Only (record { number = 13; table = 6; place = line }) (lineCheck l line)
-unfolding lineCheck characterCheck
-line-only l line =
-    let r : Refusal = record { number = 13; table = 6; place = line } in
-    only-then r (test (ltb 0 (length l) && (eqb (length l % 4) 0 && leb (length l) digitLimit)) (refuse 13 6 line)) (each (characterCheck l line) 0 (length l))
-    (only-test r (ltb 0 (length l) && (eqb (length l % 4) 0 && leb (length l) digitLimit)))
-    (only-each r (characterCheck l line) (λ i. only-test r (leb (digitOf (getD l i 0)) 15)) 0 (length l))
 
 never : {A : Type 0} (r : Refusal) → Fine ≡ Refused r → A
 never r e = let z : _≡_ {A = ℕ} 0 1 = cc in absurd (omega arith)

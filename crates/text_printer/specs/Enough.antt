@@ -6,6 +6,10 @@ use Rattle.tables.specs.Limits.{frameLimit, batchLimit, digitLimit}
 abbrev pub printedMost : ℕ
 printedMost = 13 * frameLimit
 
--- lines that are taken have four digits a word and a line feed a frame; behind them one digit more than a line may have
+-- lines of frames that are taken have four digits a word and a line feed a frame; behind them one digit more than a line may have
+abbrev pub framesMost : ℕ
+framesMost = 4 * batchLimit + frameLimit + digitLimit + 1
+
+-- above them a mode line may stand: eight digits and a line feed
 abbrev pub inputMost : ℕ
-inputMost = 4 * batchLimit + frameLimit + digitLimit + 1
+inputMost = framesMost + 9

@@ -6,10 +6,11 @@ use lib.ListN.{length, take}
 use Rattle.tables.specs.Limits.{batchLimit, digitLimit}
 use Rattle.tables.specs.declared.refusal.Refusal.{Refusal}
 use Rattle.tables.specs.declared.refusal.Checked.the-variants as checked
+use Rattle.batch_mode.specs.declared.Mode.{Mode}
 use Rattle.text_digits.specs.Digits.{wordsOf}
 use Rattle.text_plan_lines.specs.Printing.{planText, Answered}
 use Rattle.outcomes.specs.declared.texts.Printed.{Printed}
-use Rattle.text_printer.specs.Printer.{takeCheck, stopped, taken, Lines, PlanIs}
+use Rattle.text_printer.specs.Printer.{takeCheck, stopped, taken, Lines, PlanIs, PrintsFrames}
 use Rattle.text_printer.specs.declared.Taken.{Taken}
 use Rattle.text_printer.specs.declared.Taken.the-variants as took
 use Rattle.text_printer.specs.declared.Ran.{Ran}
@@ -42,7 +43,13 @@ pub record InLine (before : ℕ) (why : Refusal) : Type 0 where
   pub reached : (why .number ≡ 13 → ⊥) → (why .number ≡ 10 → ⊥) → before ≤ why .place
 
 -- the plan of a batch is printed
-pub record PlanPrinted (b kinds before after : List ℕ) (answer : Printed) : Type 0 where
+pub record PlanPrinted (m : Mode) (b kinds before after : List ℕ) (answer : Printed) : Type 0 where
   pub plan : List ℕ
-  pub is : PlanIs b plan
+  pub is : PlanIs m b plan
   pub answered : Answered (planText kinds plan (length kinds)) before after answer
+
+-- what the lines of frames print is printed, with so many lines above them
+pub record LinesPrinted (m : Mode) (above : ℕ) (s before after : List ℕ) (answer : Printed) : Type 0 where
+  pub text : List ℕ
+  pub prints : PrintsFrames m above s text
+  pub answered : Answered text before after answer

@@ -1,5 +1,6 @@
-// The plan printer: from lines to the plan of their frames, or to the first refusal.
-use batch_plan::plan::plan;
+// The plan printer: from lines to the plan of their frames, in the mode that the first line may name, or to the first refusal.
+use batch_mode::Mode;
+use batch_plan::plan::plan_by;
 use batch_whole::frame_checked;
 use outcomes::texts::Parsed;
 use outcomes::texts::Printed;
@@ -8,6 +9,8 @@ use tables::limits::DIGIT_LIMIT;
 use tables::limits::FRAME_LIMIT;
 use tables::refusal::Checked;
 use tables::refusal::Refusal;
+use text_first_line::First;
+use text_first_line::first_line;
 use text_line_in::read_line;
 use text_parts::next_byte;
 use text_plan_lines::print_frames;
@@ -19,7 +22,7 @@ ghost use Rattle.tables.specs.Limits.{batchLimit, digitLimit, frameLimit};
 ghost use Rattle.tables.specs.declared.refusal.Checked.the-variants.{Fine};
 ghost use Rattle.batch_check.specs.Batches.{planCheck};
 ghost use Rattle.text_printer.specs.Printer.{offsetIn, PrintedAs};
-ghost use Rattle.text_printer.specs.Reading.{Roomy, TakenAs, RanAs, InLine, PlanPrinted};
+ghost use Rattle.text_printer.specs.Reading.{Roomy, TakenAs, RanAs, InLine, PlanPrinted, LinesPrinted};
 
 // What taking a line answers: how many words are in use behind it.
 enum Taken {
@@ -85,12 +88,12 @@ fn places() -> [u16; FRAME_LIMIT]
 }
 
 // The plan of an accepted batch.
-fn print_plan(b: &[u16], kinds: &[u16], out: &mut [u8]) -> Printed
+fn print_plan(mode: Mode, b: &[u16], kinds: &[u16], out: &mut [u8]) -> Printed
     requires { ⌜ planCheck (now b) frameLimit ≡ Fine ⌝ }
-    ensures { λ r. ⌜ PlanPrinted (now (b .entry)) (now (kinds .entry)) (now (out .entry)) (now (out .exit)) r ⌝ }
+    ensures { λ r. ⌜ PlanPrinted mode (now (b .entry)) (now (kinds .entry)) (now (out .entry)) (now (out .exit)) r ⌝ }
 {
     let mut words = places();
-    plan(b, &mut words);
+    plan_by(mode, b, &mut words);
     print_frames(kinds, &words, out)
 }
 
@@ -118,17 +121,29 @@ fn offset_in(before: usize, why: Refusal) -> usize
     why.place - before
 }
 
-// From lines to the printed plan, or to the first refusal.
-pub fn print(input: &[u8], out: &mut [u8]) -> Printed
-    ensures { λ r. ⌜ PrintedAs (now (input .entry)) (now (out .entry)) (now (out .exit)) r ⌝ }
+// The lines of frames, with so many lines above them: their plan in a mode, or the first refusal.
+fn print_lines(mode: Mode, above: usize, input: &[u8], out: &mut [u8]) -> Printed
+    requires { ⌜ above ≤ 1 ⌝ }
+    ensures { λ r. ⌜ LinesPrinted mode above (now (input .entry)) (now (out .entry)) (now (out .exit)) r ⌝ }
 {
     let mut batch = room();
     let mut kinds = places();
     match read_lines(input, &mut batch, &mut kinds) {
         Ran::Stopped(line, before, why) => {
             let offset = offset_in(before, why);
-            print_refusal(line, why.number, offset, out)
+            print_refusal(above + line, why.number, offset, out)
         }
-        Ran::All(frames, words) => print_plan(&batch[0..words], &kinds[0..frames], out),
+        Ran::All(frames, words) => print_plan(mode, &batch[0..words], &kinds[0..frames], out),
+    }
+}
+
+// From lines to the printed plan, or to the first refusal: a first line that names the mode is line 1, and no frame.
+pub fn print(input: &[u8], out: &mut [u8]) -> Printed
+    ensures { λ r. ⌜ PrintedAs (now (input .entry)) (now (out .entry)) (now (out .exit)) r ⌝ }
+{
+    match first_line(input) {
+        First::Frames => print_lines(Mode::Deep, 0, input, out),
+        First::Named(mode, at) => print_lines(mode, 1, &input[at..], out),
+        First::Refused(why) => print_refusal(1, why.number, why.place, out),
     }
 }

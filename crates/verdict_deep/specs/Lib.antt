@@ -1,3 +1,2 @@
--- What a reader must believe of the deep verdict is Promise; Deep is what its inside holds, and need not be believed.
-pub mod Deep
+-- What a reader must believe of the deep verdict.
 pub mod Promise

@@ -1,7 +1,8 @@
-// The shortest way on which a read and an update show a conflict, counted and written.
+// The shortest way on which a read and an update show a conflict, counted and written; and the tests of the deep verdict, by one way each.
+use check_verdict::deep_delete_check;
+use check_verdict::deep_insert_check;
 use check_verdict::delete_check;
 use check_verdict::insert_check;
-use check_verdict::patterns_check;
 use tables::limits::STEP_LIMIT;
 use tables::refusal::Checked;
 use verdict_entering::entering_states;
@@ -14,8 +15,8 @@ ghost use lib.ListN.{length};
 ghost use Rattle.tables.specs.Limits.{stepLimit};
 ghost use Rattle.tables.specs.Checks.{whereFine};
 ghost use Rattle.tables.specs.declared.refusal.Checked.the-variants.{Fine};
-ghost use Rattle.conflict.specs.Crossing.{deleteWay, insertWay, touches};
-ghost use Rattle.check_verdict.specs.Order.{patternsCheck, deleteVerdictCheck, insertVerdictCheck};
+ghost use Rattle.conflict.specs.Crossing.{deleteWay, insertWay, deleteDeep, insertDeep};
+ghost use Rattle.check_verdict.specs.Order.{deepDeleteCheck, deepInsertCheck, deleteVerdictCheck, insertVerdictCheck};
 ghost use Rattle.verdict_ways.specs.Marked.{Only};
 ghost use Rattle.verdict_ways.specs.Ways.{WayWritten};
 
@@ -50,14 +51,28 @@ fn shortest_insert(r: &[u16], p: &[u16], x: &[u16], out: &mut [u16]) -> usize
     meet(r, false, p, false, &states, j, out)
 }
 
-// Whether some way has an update point of p at or below a node that r selects; the way is counted, and written nowhere.
-fn touch_found(r: &[u16], p: &[u16]) -> bool
-    requires { ⌜ patternsCheck (now r) (now p) ≡ Fine ⌝ }
-    ensures { λ b. ⌜ b ≡ touches (now (r .entry)) (now (p .entry)) ⌝ }
+// Whether some way is one that an admitted read and an admitted delete both hit; the way is counted, and written nowhere.
+fn both_hit(r: &[u16], p: &[u16]) -> bool
+    requires { ⌜ deepDeleteCheck (now r) (now p) ≡ Fine ⌝ }
+    ensures { λ b. ⌜ b ≡ deleteDeep (now (r .entry)) (now (p .entry)) ⌝ }
 {
     let i = r.len() / 2 - 1;
-    let point = p.len() / 2 - 1;
+    let end = p.len() / 2 - 1;
     let states = only(i);
+    let mut nowhere = [0; 1];
+    0 < meet(r, true, p, true, &states, end, &mut nowhere)
+}
+
+// Whether some way leads to an update point of an admitted insert from which the read enters the inserted tree, or at or above which it
+// selects: the read's last state is marked with those from which it enters.
+fn entered_or_hit(r: &[u16], p: &[u16], x: &[u16]) -> bool
+    requires { ⌜ deepInsertCheck (now r) (now p) (now x) ≡ Fine ⌝ }
+    ensures { λ b. ⌜ b ≡ insertDeep (now (r .entry)) (now (p .entry)) (now (x .entry)) ⌝ }
+{
+    let last = r.len() / 2 - 1;
+    let point = p.len() / 2 - 1;
+    let mut states = entering_states(r, x);
+    states[last] = 1;
     let mut nowhere = [0; 1];
     0 < meet(r, true, p, false, &states, point, &mut nowhere)
 }
@@ -82,12 +97,22 @@ pub fn insert_way(r: &[u16], p: &[u16], x: &[u16], out: &mut [u16]) -> usize
     }
 }
 
-// Whether some way has an update point at or below a node that the read selects.
-pub fn touching(r: &[u16], p: &[u16]) -> bool
-    ensures { λ b. ⌜ b ≡ whereFine (patternsCheck (now (r .entry)) (now (p .entry))) (touches (now (r .entry)) (now (p .entry))) false ⌝ }
+// The deep verdict's test of a read and a delete: whether some way is one that both hit.
+pub fn delete_deep(r: &[u16], p: &[u16]) -> bool
+    ensures { λ b. ⌜ b ≡ whereFine (deepDeleteCheck (now (r .entry)) (now (p .entry))) (deleteDeep (now (r .entry)) (now (p .entry))) false ⌝ }
 {
-    match patterns_check(r, p) {
-        Checked::Fine => touch_found(r, p),
+    match deep_delete_check(r, p) {
+        Checked::Fine => both_hit(r, p),
+        Checked::Refused(_) => false,
+    }
+}
+
+// The same of a read and an insert: whether some way shows a conflict, or has an update point at or below a node that the read selects.
+pub fn insert_deep(r: &[u16], p: &[u16], x: &[u16]) -> bool
+    ensures { λ b. ⌜ b ≡ whereFine (deepInsertCheck (now (r .entry)) (now (p .entry)) (now (x .entry))) (insertDeep (now (r .entry)) (now (p .entry)) (now (x .entry))) false ⌝ }
+{
+    match deep_insert_check(r, p, x) {
+        Checked::Fine => entered_or_hit(r, p, x),
         Checked::Refused(_) => false,
     }
 }

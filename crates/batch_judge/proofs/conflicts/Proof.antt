@@ -13,6 +13,6 @@ conflicts-spec =
     (λ c κs. search needs)
     (λ c κs. search needs)
     (λ c κs. search needs)
-    (λ c. insert-tells _ _ _ (c .before .before .before .before .before .steps .ensures) (c .before .before .before .before .steps2 .ensures) (c .before .before .before .word .ensures) (c .before .nodes .ensures) (c .before .before .if1 .taken) (c .insert-conflicts .ensures))
+    (λ c. insert-tells _ _ _ (c .before .before .before .before .before .steps .ensures) (c .before .before .before .before .steps2 .ensures) (c .before .before .before .word .ensures) (c .before .nodes .ensures) (c .before .before .if1 .taken) (c .insert-in .ensures))
     (λ c κs. search needs)
-    (λ c. delete-tells _ _ _ (c .before .before .before .before .steps .ensures) (c .before .before .before .steps2 .ensures) (c .before .before .word .ensures) (c .before .if1 .left) (c .delete-conflicts .ensures)))
+    (λ c. delete-tells _ _ _ (c .before .before .before .before .steps .ensures) (c .before .before .before .steps2 .ensures) (c .before .before .word .ensures) (c .before .if1 .left) (c .delete-in .ensures)))

@@ -25,6 +25,7 @@ pub use Rattle.c_numbers.specs.Numbers.{ofStepped, ofPlanned, ofParsed, ofSpell
 -- selection: by embeddings, in rows, computed
 pub use Rattle.selection.specs.Lists.{count}
 pub use Rattle.selection.specs.Embeddings.{Selects}
+pub use Rattle.selection.specs.Showing.{SameNodes, SameBelow}
 pub use Rattle.selection.specs.Rows.{Row}
 pub use Rattle.selection.specs.Ways.{selected}
 pub use Rattle.selection.specs.Operations.{fits}
@@ -53,14 +54,17 @@ pub use Rattle.verdict_evidence.specs.Promise.{Lost, Gained, Checks, shownNode}
 pub use Rattle.outcomes.specs.declared.verdicts.Evidence.{Evidence}
 pub use Rattle.outcomes.specs.declared.verdicts.Evidence.the-variants as evidence
 pub use Rattle.marked.specs.Marked.{Marked}
--- batches: stepAt is promised by the walker's next and by step, placeAfter and numberAfter by its moved, Plan by plan
+-- batches: stepAt is promised by the walker's next and by step, placeAfter and numberAfter by its moved, Plan by plan, PlanIn by plan_in, PlanOf by plan_by
 pub use Rattle.order.specs.Frames.{Frame, At, read, update, earlier, number}
 pub use Rattle.batch_walk.specs.Walking.{walkCheck, stepAt, placeAfter, numberAfter}
 pub use Rattle.batch_walk.specs.Walk.{callPlace, callGives, firstParts, GivesFrame, StopsAt}
 pub use Rattle.batch_frame.specs.Faults.{named}
 pub use Rattle.outcomes.specs.declared.frames.Stepped.the-variants as walker
 pub use Rattle.batch_check.specs.Batches.{batchOf, batchCheck, planCheck}
-pub use Rattle.batch_plan.specs.Batch.{Plan, SlotIs}
+pub use Rattle.batch_mode.specs.Modes.{relationOf, modeCheck}
+pub use Rattle.batch_mode.specs.declared.Mode.{Mode}
+pub use Rattle.batch_plan.specs.Batch.{PlanOf, Plan, planInCheck, PlanIn, SlotIs}
+pub use Rattle.outcomes.specs.declared.plans.Planned.{Planned}
 pub use Rattle.outcomes.specs.declared.plans.Planned.the-variants as planned
 -- orders of a batch, and a batch run call by call: when two runs give the same
 pub use Rattle.order.specs.Order.{Stands, Before, own}
@@ -89,7 +93,9 @@ pub use Rattle.text_xml_form.specs.Elements.{written, RightTags, treeOf, shorte
 pub use Rattle.text_xml_form.specs.Numbering.{starts, InOrder, Renumbered}
 pub use Rattle.text_xml_in.specs.Reading.{tagsCheck, readTreeCheck, ReadTree}
 -- the printer: PrintedAs is promised by print
-pub use Rattle.text_printer.specs.Printer.{takeCheck, Lines, stopped, offsetIn, Prints, PrintedAs}
+pub use Rattle.text_first_line.specs.FirstLine.{firstWords, ModeLine, modeLineCheck, behindFirst}
+pub use Rattle.text_plan_lines.specs.Printing.{refusalText}
+pub use Rattle.text_printer.specs.Printer.{takeCheck, Lines, stopped, taken, offsetIn, PrintsFrames, Prints, PrintedAs}
 pub use Rattle.text_printer.specs.Faults.{LineFault}
 pub use Rattle.text_printer.specs.Enough.{printedMost, inputMost}
 pub use Rattle.outcomes.specs.declared.texts.Printed.{Printed}

@@ -1,6 +1,7 @@
--- How the lines end decides what is printed.
+-- What the first line is decides in which mode, and behind how many lines, the lines of frames are printed.
+use native.Mathlib.Omega.{arith}
 use borrow.Author.Needs.{needs}
-use Rattle.text_printer.proofs.Promise.{stop-within, stop-prints, all-words, all-frames, all-planned, all-prints}
+use Rattle.text_printer.proofs.Promise.{named-within, prints-unnamed, prints-named, prints-misnamed}
 use Rattle.text_printer.proofs.print.Statement.{statement}
 use Rattle.text_printer.proofs.print.Tie as tie
 
@@ -9,22 +10,18 @@ print-spec =
     tie.close
     (tie.spec
     (λ c κs. search needs)
-    (λ c κs. search needs)
-    (λ c. search needs)
     (λ c. search needs)
     (λ c κs. search needs)
     (λ c. search needs)
-    (λ c κs. stop-within (c .before .before .before .before .before .before .before .before .before .before .before .before .args .input .now) (c .before .before .before .before .before .read-lines .last .1 .0) (c .before .before .before .before .before .read-lines .last .1 .1 .0) (c .before .before .before .before .before .read-lines .result) (c .before .before .before .before .before .read-lines .ensures) (c .before .line .given .1))
+    (λ c. omega (arith, named-within (c .before .before .before .before .before .before .args .input .now) (c .before .before .before .first-line .result) (c .before .before .before .first-line .ensures) (c .before .mode .given .1)))
+    (λ c. omega (arith, named-within (c .before .before .before .before .before .before .args .input .now) (c .before .before .before .first-line .result) (c .before .before .before .first-line .ensures) (c .before .mode .given .1)))
+    (λ c. search needs)
     (λ c κs. search needs)
     (λ c. search needs)
+    (λ c κs. search needs)
     (λ c. search needs)
+    (λ c. prints-unnamed (c .before .before .before .before .before .before .before .before .before .args .input .now) (c .before .before .before .before .before .before .first-line .result) (c .before .before .before .before .before .before .first-line .ensures) (c .before .before .before .before .enum-told .given .1) (c .before .before .print-lines .ensures))
     (λ c. search needs)
-    (λ c. all-words (c .before .before .before .before .before .before .before .before .before .before .before .before .before .args .input .now) (c .before .before .before .before .before .before .read-lines .last .1 .0) (c .before .before .before .before .before .before .read-lines .last .1 .1 .0) (c .before .before .before .before .before .before .read-lines .result) (c .before .before .before .before .before .before .read-lines .ensures) (c .before .before .frames .given .1))
+    (λ c. prints-named (c .before .before .before .before .before .before .before .before .before .before .before .args .input .now) (c .before .before .before .before .before .before .before .before .first-line .result) (c .before .before .before .before .before .before .before .before .first-line .ensures) (c .before .before .before .before .before .before .mode .given .1) (c .before .before .print-lines2 .ensures))
     (λ c. search needs)
-    (λ c. search needs)
-    (λ c. all-frames (c .before .before .before .before .before .before .before .before .before .before .before .before .before .before .before .args .input .now) (c .before .before .before .before .before .before .before .before .read-lines .last .1 .0) (c .before .before .before .before .before .before .before .before .read-lines .last .1 .1 .0) (c .before .before .before .before .before .before .before .before .read-lines .result) (c .before .before .before .before .before .before .before .before .read-lines .ensures) (c .before .before .before .before .frames .given .1))
-    (λ c κs. all-planned (c .before .before .before .before .before .before .before .before .before .before .before .before .before .before .before .before .before .args .input .now) (c .before .before .before .before .before .before .before .before .before .before .read-lines .last .1 .0) (c .before .before .before .before .before .before .before .before .before .before .read-lines .last .1 .1 .0) (c .before .before .before .before .before .before .before .before .before .before .read-lines .result) (c .before .before .before .before .before .before .before .before .before .before .read-lines .ensures) (c .before .before .before .before .before .before .frames .given .1))
-    (λ c. search needs)
-    (λ c. stop-prints (c .before .before .before .before .before .before .before .before .before .before .before .before .before .before .before .before .before .args .input .now) (c .before .before .before .before .before .before .before .before .before .before .read-lines .last .1 .0) (c .before .before .before .before .before .before .before .before .before .before .read-lines .last .1 .1 .0) (c .before .before .before .before .before .before .before .before .before .before .read-lines .result) (c .before .before .before .before .before .before .before .before .before .before .read-lines .ensures) (c .before .before .before .before .before .before .line .given .1) (c .before .before .before .before .offset-in .ensures) (c .before .before .print-refusal .ensures))
-    (λ c. search needs)
-    (λ c. all-prints (c .before .before .before .before .before .before .before .before .before .before .before .before .before .before .before .before .before .before .before .before .args .input .now) (c .before .before .before .before .before .before .before .before .before .before .before .before .before .read-lines .last .1 .0) (c .before .before .before .before .before .before .before .before .before .before .before .before .before .read-lines .last .1 .1 .0) (c .before .before .before .before .before .before .before .before .before .before .before .before .before .read-lines .result) (c .before .before .before .before .before .before .before .before .before .before .before .before .before .read-lines .ensures) (c .before .before .before .before .before .before .before .before .before .frames .given .1) (c .before .before .print-plan .ensures)))
+    (λ c. prints-misnamed (c .before .before .before .before .before .before .before .before .before .before .args .input .now) (c .before .before .before .before .before .before .before .first-line .result) (c .before .before .before .before .before .before .before .first-line .ensures) (c .before .before .before .before .before .why .given .1) (c .before .before .print-refusal .ensures)))

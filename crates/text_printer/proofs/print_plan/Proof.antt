@@ -4,11 +4,10 @@ use Rattle.text_printer.proofs.Promise.{plan-is}
 use Rattle.text_printer.proofs.print_plan.Statement.{statement}
 use Rattle.text_printer.proofs.print_plan.Tie as tie
 
--- src/lib.rt:103:1
 returns : tie.Need-returns
 returns c = record {
-  plan = c .before .before .before .before .before .before .plan .last .1 .0;
-  is = plan-is (c .before .before .before .before .before .before .before .before .before .before .before .before .args .b .now) (c .before .before .before .before .before .before .before .before .places .result) (c .before .before .before .before .before .before .plan .last .1 .0) (c .before .before .before .before .before .before .before .before .places .ensures) (c .before .before .before .before .before .before .before .before .before .before .before .before .pre) (c .before .before .before .before .before .before .plan .result) (c .before .before .before .before .before .before .plan .ensures);
+  plan = c .before .before .before .before .before .before .plan-by .last .1 .1 .0;
+  is = plan-is (c .before .before .before .before .before .before .before .before .before .before .before .before .args .mode) (c .before .before .before .before .before .before .before .before .before .before .before .before .args .b .now) (c .before .before .before .before .before .before .before .before .places .result) (c .before .before .before .before .before .before .plan-by .last .1 .1 .0) (c .before .before .before .before .before .before .before .before .places .ensures) (c .before .before .before .before .before .before .before .before .before .before .before .before .pre) (c .before .before .before .before .before .before .plan-by .result) (c .before .before .before .before .before .before .plan-by .ensures);
   answered = c .before .before .print-frames .ensures;
 }
 

@@ -1,5 +1,4 @@
 -- The check, and where it is fine the answer.
-use mathlib.Core.Path.{sym, _∙_}
 use Rattle.verdict_deep.proofs.Judging.{deeply-on, deeply-off}
 use Rattle.verdict_deep.proofs.Promise.{deep-delete-promise}
 use native.Mathlib.Omega.{arith}
@@ -13,7 +12,7 @@ deep-delete-verdict-spec =
     (tie.spec
     (λ c κs. search needs)
     (λ c. search needs)
-    (λ c κs. sym (c .before .before .deep-delete-check .ensures) ∙ c .enum-told .given .1)
+    (λ c κs. search needs)
     (λ c κs. search needs)
     (λ c. search needs)
     (λ c.

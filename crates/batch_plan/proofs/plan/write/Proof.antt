@@ -5,25 +5,26 @@ use mathlib.Core.Path.{refl}
 use mathlib.Core.Logic.{⊎-elim}
 use native.Mathlib.Omega.{arith}
 use Rattle.batch_check.specs.Batches.{patternOf}
+use Rattle.batch_mode.specs.Modes.{relationOf}
 use Rattle.batch_plan.proofs.Searching.{Searched, Slotted, search-start, search-none, search-hit, search-on}
 use Rattle.batch_plan.proofs.Turns.{Walked, walk-start, stands, noted-few, room, read-turn, update-turn, walk-end}
 use Rattle.batch_plan.proofs.plan.write.Statement.{statement}
 use Rattle.batch_plan.proofs.plan.write.Tie as tie
 
 abbrev Inv-loop2 : tie.InvT-loop2
-Inv-loop2 b n out places updates at k here j₀ j = Searched b k (patternOf b here) updates j
+Inv-loop2 mode b n out places updates at k here j₀ j = Searched (relationOf mode) b k (patternOf b here) updates j
 
 abbrev μ-loop2 : tie.MeasureT-loop2
-μ-loop2 b n out places updates at k here j₀ j = j
+μ-loop2 mode b n out places updates at k here j₀ j = j
 
 abbrev Inv-loop : tie.InvT-loop
-Inv-loop b n out₀ places₀ updates₀ at₀ k₀ out places updates at k = Walked b n out₀ out places updates at k
+Inv-loop mode b n out₀ places₀ updates₀ at₀ k₀ out places updates at k = Walked (relationOf mode) b n out₀ out places updates at k
 
 abbrev μ-loop : tie.MeasureT-loop
-μ-loop b n out₀ places₀ updates₀ at₀ k₀ out places updates at k = n - k
+μ-loop mode b n out₀ places₀ updates₀ at₀ k₀ out places updates at k = n - k
 
 -- the ways out of the search meet at the slot
-found : (c : tie.Joined2 Inv-loop2 μ-loop2 Inv-loop μ-loop) → Slotted (c .before .before .before .before .before .before .before .before .before .args .b .now) (c .before .before .before .before .before .before .loop .k) (patternOf (c .before .before .before .before .before .before .before .before .before .args .b .now) (c .before .before .before .before .before .before .loop .at)) (c .before .before .before .before .before .before .loop .updates) (c .if2 .slot)
+found : (c : tie.Joined2 Inv-loop2 μ-loop2 Inv-loop μ-loop) → Slotted (relationOf (c .before .before .before .before .before .before .before .before .before .args .mode)) (c .before .before .before .before .before .before .before .before .before .args .b .now) (c .before .before .before .before .before .before .loop .k) (patternOf (c .before .before .before .before .before .before .before .before .before .args .b .now) (c .before .before .before .before .before .before .loop .at)) (c .before .before .before .before .before .before .loop .updates) (c .if2 .slot)
 found c =
     ⊎-elim
     (λ w. search-none (c .before .loop2 .inv) (w .0 .taken) (w .1))

@@ -7,10 +7,10 @@ use Rattle.test_small.proofs.line_damage.put_lines.Statement.{statement
 use Rattle.test_small.proofs.line_damage.put_lines.Tie as tie
 
 abbrev Inv-loop : tie.InvT-loop
-Inv-loop out₀ b frames d at₀ from₀ n₀ out at from n = (n ≤ frames) × (length out ≡ length out₀)
+Inv-loop out₀ start b frames d at₀ from₀ n₀ out at from n = (n ≤ frames) × (length out ≡ length out₀)
 
 abbrev μ-loop : tie.MeasureT-loop
-μ-loop out₀ b frames d at₀ from₀ n₀ out at from n = frames - n
+μ-loop out₀ start b frames d at₀ from₀ n₀ out at from n = frames - n
 
 pub put-lines-spec : {M : Type 1} → statement M
 put-lines-spec =

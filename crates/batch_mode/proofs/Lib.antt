@@ -1,0 +1,2 @@
+-- Laws of the modes of a plan.
+pub mod Branches
