@@ -76,6 +76,7 @@ use Rattle.text_printer.specs.Printer.{refusal, named, misnamed}
 use Rattle.text_printer.proofs.Moded.{moded-plan}
 use Rattle.text_first_line.specs.FirstLine.{firstWords}
 use Rattle.text_first_line.proofs.Laws.{mode-refused-numbers}
+use Rattle.text_first_line.proofs.Example.{node-named, deep-named}
 use Rattle.demands.proofs.Numbering.{stops, mode-lines}
 use Rattle.demands.proofs.Orders as orders
 use Rattle.demands.proofs.Texts.{lists-place, list-lines, texts, texts-place, text-steps, written-reads, read-writes}
@@ -207,6 +208,8 @@ in-both-modes =
       deep = demand-three below-shown deeply-decides clear-deep;
       named-node = named-node;
       named-deep = named-deep;
+      line-node = node-named;
+      line-deep = deep-named;
       deeper = deeper;
       also-nodes = λ r d e same. below-nodes same;
       not-nodes = not-nodes;

@@ -169,6 +169,9 @@ pub record InBothModes : Type 0 where
   -- the plan that is named by 1 is the node plan, and the one that is named by 2 the deep plan, which is given where none is named
   pub named-node : (b before after : List ℕ) (answer : Planned) → PlanIn 1 b before after answer ↔ PlanOf Conflict b before after answer
   pub named-deep : (b before after : List ℕ) (answer : Planned) → PlanIn 2 b before after answer ↔ Plan b before after answer
+  -- in lines 00040001 names node, and 00040002 deep
+  pub line-node : ModeLine nodeLine × (modeLineCheck (firstWords nodeLine) ≡ Fine) × (modeOf (getD (firstWords nodeLine) 1 0) ≡ mode.Node)
+  pub line-deep : ModeLine deepLine × (modeLineCheck (firstWords deepLine) ≡ Fine) × (modeOf (getD (firstWords deepLine) 1 0) ≡ mode.Deep)
   -- a read's deep slot is never less than its node slot; what is the same in deep mode is the same in node mode; but not the other way round
   pub deeper : (b : List (Frame (List ℕ) Update)) (k : ℕ) (r : List ℕ) (v w : ℕ) → SlotIs Conflict b k r v → SlotIs Deep b k r w → v ≤ w
   pub also-nodes : (r : List ℕ) (d e : Doc) → SameBelow r d e → SameNodes r d e

@@ -3,3 +3,4 @@ pub mod Lines
 pub mod Branches
 pub mod Looking
 pub mod Laws
+pub mod Example

@@ -1,7 +1,7 @@
 -- The lines of an input, and its first line, which may name the mode.
 use Prim.Native.Nat.{ℕ, _+_, _-_}
 use mathlib.Core.Path.{_≡_}
-use mathlib.Core.List.{List}
+use mathlib.Core.List.{List, [], _∷_}
 use lib.Dec.{ltb, leb}
 use lib.ListN.{length, getD, drop}
 use Rattle.tables.specs.Checks.{_then_, test, refuse}
@@ -37,3 +37,10 @@ modeLineCheck ws = test (ltb 1 (length ws)) (refuse 9 6 1) then test (leb (lengt
 -- the lines behind the first
 abbrev pub behindFirst : List ℕ → List ℕ
 behindFirst s = drop (lineEnd s 0 + 1) s
+
+-- the two mode lines in bytes, 00040001 and 00040002, each with its line feed
+abbrev pub nodeLine : List ℕ
+nodeLine = 48 ∷ 48 ∷ 48 ∷ 52 ∷ 48 ∷ 48 ∷ 48 ∷ 49 ∷ 10 ∷ []
+
+abbrev pub deepLine : List ℕ
+deepLine = 48 ∷ 48 ∷ 48 ∷ 52 ∷ 48 ∷ 48 ∷ 48 ∷ 50 ∷ 10 ∷ []

@@ -61,8 +61,9 @@ pub use Rattle.batch_walk.specs.Walk.{callPlace, callGives, firstParts, GivesFr
 pub use Rattle.batch_frame.specs.Faults.{named}
 pub use Rattle.outcomes.specs.declared.frames.Stepped.the-variants as walker
 pub use Rattle.batch_check.specs.Batches.{batchOf, batchCheck, planCheck}
-pub use Rattle.batch_mode.specs.Modes.{relationOf, modeCheck}
+pub use Rattle.batch_mode.specs.Modes.{relationOf, modeCheck, modeOf}
 pub use Rattle.batch_mode.specs.declared.Mode.{Mode}
+pub use Rattle.batch_mode.specs.declared.Mode.the-variants as mode
 pub use Rattle.batch_plan.specs.Batch.{PlanOf, Plan, planInCheck, PlanIn, SlotIs}
 pub use Rattle.outcomes.specs.declared.plans.Planned.{Planned}
 pub use Rattle.outcomes.specs.declared.plans.Planned.the-variants as planned
@@ -93,7 +94,7 @@ pub use Rattle.text_xml_form.specs.Elements.{written, RightTags, treeOf, shorte
 pub use Rattle.text_xml_form.specs.Numbering.{starts, InOrder, Renumbered}
 pub use Rattle.text_xml_in.specs.Reading.{tagsCheck, readTreeCheck, ReadTree}
 -- the printer: PrintedAs is promised by print
-pub use Rattle.text_first_line.specs.FirstLine.{firstWords, ModeLine, modeLineCheck, behindFirst}
+pub use Rattle.text_first_line.specs.FirstLine.{firstWords, ModeLine, modeLineCheck, behindFirst, nodeLine, deepLine}
 pub use Rattle.text_plan_lines.specs.Printing.{refusalText}
 pub use Rattle.text_printer.specs.Printer.{takeCheck, Lines, stopped, taken, offsetIn, PrintsFrames, Prints, PrintedAs}
 pub use Rattle.text_printer.specs.Faults.{LineFault}
