@@ -12,32 +12,10 @@ use Rattle.selection.specs.Ways.{run, last}
 use Rattle.selection.proofs.Runs.{either}
 use Rattle.selection.proofs.Lists.{below-suc}
 use Rattle.conflict.specs.Meeting.{meetingOf}
-use Rattle.conflict.specs.Crossing.{somewhere, enters, entering}
+use Rattle.conflict.specs.Crossing.{enters, entering}
 use Rattle.conflict.proofs.Steps.{Within, least-first, least-second, cond-keeps, shorter-keeps, length-shorter}
 use Rattle.conflict.proofs.Meeting.{Labels, none, Common}
 use Rattle.conflict.proofs.Shortest.{length-meetingOf, fewestOf-most, meetingOf-labels, meetingOf-common, fewestOf-within}
-
--- a number below n at which f holds
-pub record Somewhere (f : ℕ → Bool) (n : ℕ) : Type 0 where
-  pub at : ℕ
-  pub below : at < n
-  pub holds : f at ≡ true
-
--- `somewhere` finds one exactly if there is one
-pub of-somewhere : (f : ℕ → Bool) (n : ℕ) → somewhere f n ≡ true → Somewhere f n
-unfolding somewhere
-of-somewhere f zero e = absurd (false≢true e)
-of-somewhere f (suc n) e =
-    either (somewhere f n) (f n) e
-    (λ before. let s : Somewhere f n = of-somewhere f n before in record { at = s .at; below = omega arith; holds = s .holds })
-    (λ here. record { at = n; below = omega arith; holds = here })
-
-pub to-somewhere : (f : ℕ → Bool) (n k : ℕ) → k < n → f k ≡ true → somewhere f n ≡ true
-unfolding somewhere
-to-somewhere f zero k h e = absurd (not-suc-le-zero h)
-to-somewhere f (suc n) k h e = below-suc k n h
-    (λ less. rw (to-somewhere f n k less e))
-    (λ same. rw (← same, e, or-true))
 
 -- a way to an update point of p, on which r comes to a state below n from which it enters x
 pub record Entry (r p x : List ℕ) (n : ℕ) (w : List ℕ) : Type 0 where

@@ -25,7 +25,8 @@ use Rattle.conflict.proofs.Crossing.{Crossing, run-some, goes-on-join, 
 use Rattle.conflict.proofs.Chains.{chain-sound, chain-last, chain-selected-last}
 use Rattle.conflict.proofs.Depth.{by-selected, Reached}
 use Rattle.conflict.proofs.Smallest.{Decides, by-differs, differs-at, differs-conflict, smallest, unchanged}
-use Rattle.conflict.proofs.Entering.{Somewhere, of-somewhere, to-somewhere, Entry, entering-entry, entering-within, entering-most, entering-labels}
+use Rattle.selection.proofs.Somewhere.{Somewhere, of-somewhere, to-somewhere}
+use Rattle.conflict.proofs.Entering.{Entry, entering-entry, entering-within, entering-most, entering-labels}
 
 module _ (r p x : List ℕ) where
   -- insertWay is the shortest way that enters: one where it is not empty, and no longer than any other

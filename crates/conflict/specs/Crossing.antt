@@ -5,6 +5,7 @@ use mathlib.Core.List.{List, [], _∷_, _++_}
 use lib.Dec.{eqb, ltb}
 use lib.ListN.{length}
 use Rattle.tables.specs.Words.{nodes}
+use Rattle.selection.specs.Lists.{somewhere}
 use Rattle.selection.specs.Ways.{up, takes, stays, last}
 use Rattle.conflict.specs.Meeting.{meetingOf, fewestOf, shorter}
 
@@ -17,11 +18,6 @@ over take stay (suc k) (l ∷ y) i = (take (suc k) l && over take stay k y i) ||
 -- r, in state i above, goes on over the way y down to its last step
 unfoldable pub goesOn : List ℕ → List ℕ → ℕ → Bool
 goesOn r y i = over (takes r) (stays r false) (last r) y i
-
--- f holds at some number below n
-unfoldable pub somewhere : (ℕ → Bool) → ℕ → Bool
-somewhere f zero = false
-somewhere f (suc n) = somewhere f n || f n
 
 -- r, in state i at the update point, goes on to its last step at some node of the inserted tree x
 unfoldable pub enters : List ℕ → List ℕ → ℕ → Bool

@@ -20,7 +20,8 @@ use Rattle.selection.proofs.Runs.{either, both}
 use Rattle.conflict.specs.Conflict.{Update, Smallest, Conflict, Touches, Deep, pattern}
 use Rattle.conflict.specs.Conflict.Update.{delete, insert}
 use Rattle.conflict.specs.Meeting.{agree, landing, shared, sooner, least, onward, shorter, longer, meeting, fewest, meetingOf, fewestOf}
-use Rattle.conflict.specs.Crossing.{over, goesOn, somewhere, enters, entering, deleteWay, insertWay, touches}
+use Rattle.selection.specs.Lists.{somewhere}
+use Rattle.conflict.specs.Crossing.{over, goesOn, enters, entering, deleteWay, insertWay, touches}
 use Rattle.conflict.proofs.Deletes.{smallest-delete}
 use Rattle.conflict.proofs.Inserts.{smallest-insert}
 use Rattle.conflict.proofs.Deeps.{touching}

@@ -5,6 +5,7 @@ pub mod Presence
 pub mod Selecting
 pub mod Hitting
 pub mod Lists
+pub mod Somewhere
 pub mod Filling
 pub mod Rows
 pub mod Deleting

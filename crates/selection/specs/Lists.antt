@@ -1,6 +1,6 @@
--- Lists made by counting upwards.
+-- Lists made by counting upwards, and what holds below a number.
 use Prim.Native.Nat.{ℕ, zero, suc}
-use mathlib.Core.Bool.{Bool, cond}
+use mathlib.Core.Bool.{Bool, false, _||_, cond}
 use mathlib.Core.List.{List, [], _∷_, _++_}
 use lib.ListN.{getD}
 
@@ -22,3 +22,8 @@ rising f (suc n) = cond (f n) (rising f n ++ (n ∷ [])) (rising f n)
 unfoldable pub count : (ℕ → Bool) → ℕ → ℕ
 count f zero = 0
 count f (suc n) = cond (f n) (suc (count f n)) (count f n)
+
+-- f holds at some number below n
+unfoldable pub somewhere : (ℕ → Bool) → ℕ → Bool
+somewhere f zero = false
+somewhere f (suc n) = somewhere f n || f n

@@ -15,9 +15,9 @@ use Rattle.tables.specs.Limits.{stepLimit, treeLimit, wordLimit, place}
 use Rattle.tables.specs.Words.{steps, label, nodes, parent, tag}
 use Rattle.selection.specs.Ways.{up, takes, stays, last}
 use Rattle.selection.proofs.Up.{Up, top, node, up-is, up-node, up-top}
-use Rattle.selection.proofs.Lists.{below-suc}
+use Rattle.selection.proofs.Somewhere.{Somewhere, of-somewhere, to-somewhere}
 use Rattle.selection.proofs.Runs.{either, both, stays-last}
-use Rattle.conflict.specs.Crossing.{over, goesOn, somewhere, enters}
+use Rattle.conflict.specs.Crossing.{over, goesOn, enters}
 use Rattle.conflict.proofs.Crossing.{Over, cut, lands, passes, of-over, to-over}
 use Rattle.verdict_entering.specs.Climbing.{Fitting, has, leaves, Climb, Blank, Started, Climbed}
 use Rattle.verdict_entering.specs.Climbing as climbing
@@ -80,17 +80,6 @@ pred-below n m h l = omega arith
 
 pub last-most : (n : ℕ) → n - 1 ≤ pred n
 last-most n = omega arith
-
--- f holds somewhere below n
-somewhere-of : (f : ℕ → Bool) (n k : ℕ) → k < n → f k ≡ true → somewhere f n ≡ true
-unfolding somewhere
-somewhere-of f zero k h e = absurd (omega arith)
-somewhere-of f (suc n) k h e = below-suc k n h (λ l. rw (somewhere-of f n k l e)) (λ q. rw (rw q at e, or-true))
-
-somewhere-to : {C : Type 0} (f : ℕ → Bool) (n : ℕ) → somewhere f n ≡ true → ((k : ℕ) → k < n → f k ≡ true → C) → C
-unfolding somewhere
-somewhere-to f zero e g = absurd (false≢true e)
-somewhere-to f (suc n) e g = either (somewhere f n) (f n) e (λ l. somewhere-to f n l (λ k h. g k (omega arith))) (λ here. g n (omega arith) here)
 
 -- two tests that hold together are one
 pub same-test : (a b : Bool) → (a ≡ true → b ≡ true) → (b ≡ true → a ≡ true) → a ≡ b
@@ -259,7 +248,7 @@ module _ (r x : List ℕ) (fit : Fitting r x) where
   -- a run that climbs to state k at v, and goes on over the way of v, enters
   climb-enters : {v k i : ℕ} → Climb r x v k → Over (takes r) (stays r false) k (up x v) i → enters r x i ≡ true
   unfolding enters goesOn
-  climb-enters {i} (climbing.starts {v = v} h) o = somewhere-of (λ k. over (takes r) (stays r false) (last r) (up x k) i) (nodes x) v h (to-over (takes r) (stays r false) o)
+  climb-enters {i} (climbing.starts {v = v} h) o = to-somewhere (λ k. over (takes r) (stays r false) (last r) (up x k) i) (nodes x) v h (to-over (takes r) (stays r false) o)
   climb-enters (climbing.lands {v = v} h c e) o = climb-enters c (rw (up-node x (nodes x) (fit .falls) v h (climb-inside c)) (lands e o))
   climb-enters (climbing.passes {v = v} h c e) o = climb-enters c (rw (up-node x (nodes x) (fit .falls) v h (climb-inside c)) (passes e o))
 
@@ -300,5 +289,5 @@ module _ (r x : List ℕ) (fit : Fitting r x) where
     root-is i l e =
         e
         ∙ same-test (leaves r x rows 0 i) (enters r x i) (root-enters i l)
-        (λ q. somewhere-to (λ k. over (takes r) (stays r false) (last r) (up x k) i) (nodes x) q
-        (λ v h o. root-leaves (up-is x (nodes x) (fit .falls) v h) (climbing.starts h) (of-over (takes r) (stays r false) (last r) (up x v) i o)))
+        (λ q. let s : Somewhere (λ k. over (takes r) (stays r false) (last r) (up x k) i) (nodes x) = of-somewhere (λ k. over (takes r) (stays r false) (last r) (up x k) i) (nodes x) q in
+        root-leaves (up-is x (nodes x) (fit .falls) (s .at) (s .below)) (climbing.starts (s .below)) (of-over (takes r) (stays r false) (last r) (up x (s .at)) i (s .holds)))

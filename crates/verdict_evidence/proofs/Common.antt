@@ -7,8 +7,8 @@ use native.Mathlib.Nat.{pow-suc}
 use native.Mathlib.Omega.{arith}
 use lib.Dec.{eqb}
 use borrow.Author.Tests.{eq-eqb, ne-eqb}
-use Rattle.conflict.specs.Crossing.{somewhere}
-use Rattle.conflict.proofs.Entering.{Somewhere, of-somewhere, to-somewhere}
+use Rattle.selection.specs.Lists.{somewhere}
+use Rattle.selection.proofs.Somewhere.{Somewhere, to-somewhere, nowhere}
 use Rattle.pattern_set.specs.Sets.{bit, wordSteps, Word}
 use Rattle.pattern_set.proofs.Bits.{zero-bit}
 use Rattle.pattern_set.proofs.Words.{first-bit}
@@ -27,22 +27,6 @@ some-bit (suc k) s h l = go (ℕ-discrete (s % 2) 1) (some-bit k (s / 2))
     go : Dec (s % 2 ≡ 1) → (0 < s / 2 → s / 2 < 2 ^ k → Somewhere (bit (s / 2)) k) → Somewhere (bit s) (suc k)
     go (yes e) rest = record { at = 0; below = omega arith; holds = eq-eqb (s % 2) 1 e }
     go (no e) rest = bit-behind s k (rest (omega arith) (omega (arith, rw (pow-suc 2 k) at l)))
-
--- where a test holds nowhere, it is found nowhere
-pub nowhere : (f : ℕ → Bool) (n : ℕ) → ((i : ℕ) → i < n → f i ≡ false) → somewhere f n ≡ false
-nowhere f n none = go (somewhere f n) refl
-  where
-    go : (b : Bool) → somewhere f n ≡ b → b ≡ false
-    go true e =
-        let s : Somewhere f n = of-somewhere f n e in
-        absurd (false≢true (sym (none (s .at) (s .below)) ∙ s .holds))
-    go false e = refl
-
--- tests that agree below n are found alike
-pub somewhere-same : (f g : ℕ → Bool) (n : ℕ) → ((i : ℕ) → i < n → f i ≡ g i) → somewhere f n ≡ somewhere g n
-unfolding somewhere
-somewhere-same f g zero same = refl
-somewhere-same f g (suc n) same = rw (somewhere-same f g n (λ i h. same i (omega arith)), same n (omega arith))
 
 module _ (a b c : ℕ) (small : c < 18446744073709551616) (w : Word (λ i. bit a i && bit b i) 0 c) where
   pub common-test : not (eqb c 0) ≡ meets (bit a) (bit b)

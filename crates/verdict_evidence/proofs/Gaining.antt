@@ -19,9 +19,9 @@ use Rattle.selection.proofs.Lists.{rising-of, count-holds}
 use Rattle.selection.proofs.Selecting.{selecting}
 use Rattle.selection.proofs.Keeping.{kept-selected, copy-selected}
 use Rattle.selection.proofs.Inserting.{Placed, old, copied, copies-count, inserted-placed, inserted-sound, inserted-kept, inserted-copy, point-selected, selected-used, selected-number, selected-point}
-use Rattle.conflict.specs.Crossing.{somewhere}
+use Rattle.selection.specs.Lists.{somewhere}
 use Rattle.conflict.specs.Conflict.{insert, Differs, lost, gained}
-use Rattle.conflict.proofs.Entering.{Somewhere, of-somewhere, to-somewhere}
+use Rattle.selection.proofs.Somewhere.{Somewhere, of-somewhere, to-somewhere}
 use Rattle.verdict_evidence.specs.Promise.{Lost, Gained}
 use Rattle.verdict_evidence.specs.Finding.{firstOf, picks, opening, newNode}
 use Rattle.verdict_evidence.proofs.Firsts.{First, first-of}

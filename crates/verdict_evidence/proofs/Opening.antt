@@ -20,9 +20,10 @@ use Rattle.selection.specs.Ways.{empty, up, run, last, selected}
 use Rattle.selection.proofs.Lists.{getD-tab, count-ext, count-most}
 use Rattle.selection.proofs.Runs.{both}
 use Rattle.selection.proofs.Up.{some-up}
-use Rattle.conflict.specs.Crossing.{somewhere, goesOn, enters}
+use Rattle.selection.specs.Lists.{somewhere}
+use Rattle.conflict.specs.Crossing.{goesOn, enters}
 use Rattle.conflict.proofs.Crossing.{Crossing, goes-on-join, goes-on-split, goes-on-before}
-use Rattle.conflict.proofs.Entering.{Somewhere, of-somewhere, to-somewhere}
+use Rattle.selection.proofs.Somewhere.{Somewhere, of-somewhere, to-somewhere, somewhere-same}
 use Rattle.verdict_entering.specs.Entering.{enteringCheck, entered}
 use Rattle.verdict_entering.proofs.Climbing.{same-test}
 use Rattle.pattern_set.specs.Sets.{bit, wordSteps, Word}
@@ -35,7 +36,6 @@ use Rattle.verdict_evidence.specs.Finding.{firstOf, picks, opening, newN
 use Rattle.verdict_evidence.specs.Rows.{Filled}
 use Rattle.verdict_evidence.specs.Passing.{standsBelow, meets, wanting, Falling, Stops, Masked}
 use Rattle.verdict_evidence.specs.Opening.{entrance, Ready}
-use Rattle.verdict_evidence.proofs.Common.{somewhere-same}
 use Rattle.verdict_evidence.proofs.Firsts.{first-of, first-ext}
 use Rattle.verdict_evidence.proofs.Standing.{stands-own, stands-copy, last-inside, last-stands}
 

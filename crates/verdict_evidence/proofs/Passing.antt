@@ -19,7 +19,7 @@ use Rattle.doc_updates.specs.Asking.{chosen}
 use Rattle.verdict_evidence.specs.Finding.{firstFrom, firstOf}
 use Rattle.verdict_evidence.specs.Passing.{standsBelow, meets, wanting, setOver, Falling, Known, Stops}
 use Rattle.verdict_evidence.proofs.Searching.{first-found, first-on, first-none}
-use Rattle.verdict_evidence.proofs.Common.{somewhere-same}
+use Rattle.selection.proofs.Somewhere.{somewhere-same}
 
 -- a set within a word is made of what stands above within it
 pub next-same : (take stay : ℕ → Bool) (first : Bool) (f g : ℕ → Bool) → ((j : ℕ) → j < wordSteps → f j ≡ g j)

@@ -5,10 +5,9 @@ use mathlib.Core.List.{List, _++_}
 use lib.Dec.{eqb, ltb}
 use Rattle.tables.specs.Words.{nodes}
 use Rattle.tables.specs.Documents.{bare}
-use Rattle.selection.specs.Lists.{count}
+use Rattle.selection.specs.Lists.{count, somewhere}
 use Rattle.selection.specs.Ways.{up, sel, selected}
 use Rattle.selection.specs.Operations.{hits}
-use Rattle.conflict.specs.Crossing.{somewhere}
 use Rattle.outcomes.specs.declared.verdicts.Evidence.{Evidence}
 use Rattle.outcomes.specs.declared.verdicts.Evidence.the-variants.{Same, Shown}
 

@@ -7,8 +7,8 @@ use mathlib.Core.List.{List, [], _∷_}
 use lib.ListN.{getD}
 use Rattle.tables.specs.Limits.{treeLimit}
 use Rattle.tables.specs.Words.{nodes, parent}
+use Rattle.selection.specs.Lists.{somewhere}
 use Rattle.selection.specs.Ways.{empty, up, stays}
-use Rattle.conflict.specs.Crossing.{somewhere}
 use Rattle.pattern_set.specs.Sets.{bit, nextSet, wordSteps, Word}
 use Rattle.pattern_masks.specs.Masks.{shared, Table}
 use Rattle.doc_updates.specs.Asking.{chosen}
