@@ -5,12 +5,11 @@
  * and no heap, prints nothing and always returns: calls on several threads are fine where no output is shared.
  *
  * STACK
- * What a call keeps for itself is on the stack. On x86-64 print takes at most 62,000 bytes of it; insert_evidence 45,000;
- * delete_evidence 43,000; insert and delete 42,000; write_tree 39,000, for 256 nodes each below the one before it; read 38,000, for
- * a set of steps a node; plan and plan_in 27,000; insert_verdict and deep_insert_verdict 26,000; delete_verdict and
- * deep_delete_verdict 10,000; read_tree 9,000, for the labels of open elements; read_pattern and write_pattern 6,000; each other call
- * 2,000. These are measured, by boundary/stack.c on the longest patterns, trees, batches and lists, and not proved. None grows with
- * the depth of a text.
+ * What a call keeps for itself is on the stack. On x86-64 write_tree takes at most 153,000 bytes of it, for 1,024 nodes each below the
+ * one before it; print 116,000; plan and plan_in 72,000; the verdicts and the deep verdicts 68,000, for a move of each pair of steps;
+ * insert_evidence 58,000; delete_evidence 51,000; insert and delete 47,000; read 43,000, for a set of 64 steps a node; read_tree
+ * 9,000, for the labels of open elements; read_pattern and write_pattern 6,000; each other call 2,000. These are measured, by
+ * boundary/stack.c on the longest patterns, trees, batches and lists, and not proved. None grows with the depth of a text.
  *
  * BUFFERS
  * A buffer is a pointer and, behind it, its length in elements (uint16_t words or bytes, not sizeof). The caller answers for
@@ -66,20 +65,24 @@
 extern "C" {
 #endif
 
-/* The limits. */
-#define SLOEFERTAND_STEPS 64u           /* steps of a pattern */
-#define SLOEFERTAND_TREE_NODES 256u     /* nodes of an inserted tree, of a proposed one, and of one written as tags or read */
+/* The limits.
+ * CHANGED: they were 64 steps and 256 nodes, and what follows from these: 2,572 digits and 643 words of a line, 128 words of a pattern,
+ * 254 of a witness, 512 of a tree from tags. A caller that sizes its buffers by these names compiles anew and is done. One that does not
+ * compile anew keeps what it had: all that was accepted is accepted still, with the same answers, and an output that is too short for
+ * more is refused by 7. An older library gives a longer pattern, tree or frame refusal 2, and a line of more than 2,572 digits 13. */
+#define SLOEFERTAND_STEPS 255u          /* steps of a pattern */
+#define SLOEFERTAND_TREE_NODES 1024u    /* nodes of an inserted tree, of a proposed one, and of one written as tags or read */
 #define SLOEFERTAND_USED_NODES 4096u    /* nodes in use of a document */
 #define SLOEFERTAND_PLAIN_STEPS 8u      /* steps and nodes of a plain reading */
 #define SLOEFERTAND_PLAIN_NODES 16u
 #define SLOEFERTAND_FRAMES 128u         /* frames and words of a batch */
 #define SLOEFERTAND_BATCH_WORDS 16384u
-#define SLOEFERTAND_LINE_DIGITS 2572u   /* digits and words of a line: the longest is an insert of 64 steps and 256 nodes */
-#define SLOEFERTAND_LINE_WORDS 643u
+#define SLOEFERTAND_LINE_DIGITS 10244u  /* digits and words of a line: the longest is an insert of 255 steps and 1,024 nodes */
+#define SLOEFERTAND_LINE_WORDS 2561u
 #define SLOEFERTAND_NAMES 256u          /* names of a list */
-#define SLOEFERTAND_PATTERN_WORDS 128u  /* words with room for any pattern */
-#define SLOEFERTAND_WITNESS_WORDS 254u  /* words with room for the witness of any verdict */
-#define SLOEFERTAND_TREE_WORDS 512u     /* words with room for any tree that is read from tags */
+#define SLOEFERTAND_PATTERN_WORDS 510u  /* words with room for any pattern */
+#define SLOEFERTAND_WITNESS_WORDS 1018u /* words with room for the witness of any verdict, of up to 509 nodes */
+#define SLOEFERTAND_TREE_WORDS 2048u    /* words with room for any tree that is read from tags */
 #define SLOEFERTAND_PLAN_BYTES 1664u    /* bytes with room for any printed plan */
 
 /* The modes of a plan. */
@@ -138,7 +141,7 @@ sloefertand_answer sloefertand_delete(const uint16_t *pattern, size_t pattern_wo
 
 /* Writes a copy of `tree` below each node that the pattern selects, in rising order, behind the nodes in use, with mark 0.
  * first: the copies. second: the new number of nodes in use, to be passed from then on.
- * Refusals: the document's, the pattern's (1, 2, 3 of table 2), the tree's (1, 2, 4, 5 of table 3, at most 256 nodes), 11 of
+ * Refusals: the document's, the pattern's (1, 2, 3 of table 2), the tree's (1, 2, 4, 5 of table 3, at most 1,024 nodes), 11 of
  * table 4 where the copies would pass 4,096 nodes, half of the words or the marks. */
 sloefertand_answer sloefertand_insert(const uint16_t *pattern, size_t pattern_words, const uint16_t *tree, size_t tree_words,
                                       uint16_t *rows, size_t rows_words, uint8_t *marks, size_t marks_bytes, size_t used);
@@ -168,7 +171,7 @@ sloefertand_answer sloefertand_deep_insert_verdict(const uint16_t *read, size_t 
                                                    size_t update_words, const uint16_t *tree, size_t tree_words);
 
 /* EVIDENCE: does a document that another shop proposes show that the update changes what the read selects? It is a tree of at
- * most 256 nodes, from any source and of any shape. Nothing is written, and no room is asked for. first: 0 where the read selects
+ * most 1,024 nodes, from any source and of any shape. Nothing is written, and no room is asked for. first: 0 where the read selects
  * the same nodes before and after the update, else the first node, by number, where it does not; that is never node 0. A witness
  * that a verdict wrote always shows a difference: pass the words that it has, 2 * first of that verdict. */
 
@@ -181,7 +184,7 @@ sloefertand_answer sloefertand_delete_evidence(const uint16_t *read, size_t read
 
 /* A read and an insert of `tree`. first: 0, or the first new node that the read selects, by the number that the insert gives it:
  * the copies stand behind the nodes of `proposed`, one for each update point in rising number, each numbered as `tree` is.
- * Whether a document has room for them is not asked: the number may pass 4,095, and goes up to 65,535.
+ * Whether a document has room for them is not asked: the number may pass 4,095, and goes up to 1,048,575.
  * Refusals: the read's, the update's, the tree's (1, 2, 4, 5 of table 3), the proposed tree's (1, 2, 4, 5 of table 5). */
 sloefertand_answer sloefertand_insert_evidence(const uint16_t *read, size_t read_words, const uint16_t *update,
                                                size_t update_words, const uint16_t *tree, size_t tree_words,
@@ -215,7 +218,7 @@ sloefertand_answer sloefertand_plan_in(size_t mode, const uint16_t *batch, size_
 /* LINES: four upper-case hexadecimal digits a word, the most significant first. */
 
 /* Reads one line, without its line feed, into `words`. first: the words. `number` is the place of a refusal 13.
- * Refusals: 13 of table 6 where the line is empty, has over 2,572 digits, a number of digits that 4 does not divide, or another
+ * Refusals: 13 of table 6 where the line is empty, has over 10,244 digits, a number of digits that 4 does not divide, or another
  * character; then 7. SLOEFERTAND_LINE_WORDS words are always enough. */
 sloefertand_answer sloefertand_read_line(const uint8_t *line, size_t line_bytes, size_t number, uint16_t *words,
                                          size_t words_words);
@@ -246,7 +249,7 @@ sloefertand_answer sloefertand_print(const uint8_t *lines, size_t lines_bytes, u
  * Refusals: 14 of table 8 where the list breaks: at a character that is wrong or missing, at a name that stood before, or at the
  * 257th; the place is that entry. 14 of table 7 where the text is no pattern's, by its form alone; the place is the length of its
  * longest start that some right text has, so all of it where something is missing at its end. Then, of table 1, 2 where there are
- * more than 64 steps, and 15 where a name is not listed; then 7. SLOEFERTAND_PATTERN_WORDS are always enough. */
+ * more than 255 steps, and 15 where a name is not listed; then 7. SLOEFERTAND_PATTERN_WORDS are always enough. */
 sloefertand_answer sloefertand_read_pattern(const uint8_t *list, size_t list_bytes, const uint8_t *text, size_t text_bytes,
                                             uint16_t *words, size_t words_words);
 
@@ -260,9 +263,9 @@ sloefertand_answer sloefertand_write_pattern(const uint8_t *list, size_t list_by
 /* TREES AS TAGS: element n and the label in decimal, <n1/> for a node without children, otherwise <n1>, the children in rising number,
  * each with its own children inside it, and </n1>. No spaces and no line ends. */
 
-/* Writes a tree of at most 256 nodes, a witness for instance, as tags. first: the bytes. A node without children takes 4 bytes and
- * its label's digits, any other 7 and twice its label's digits; so SLOEFERTAND_TREE_BYTES of its nodes are always enough, 4,344 for
- * 256 of them.
+/* Writes a tree of at most 1,024 nodes, a witness for instance, as tags. first: the bytes. A node without children takes 4 bytes and
+ * its label's digits, any other 7 and twice its label's digits; so SLOEFERTAND_TREE_BYTES of its nodes are always enough, 17,400 for
+ * 1,024 of them.
  * Refusals: the tree's (1, 2, 4, 5 of table 5), then 7 where the whole text does not fit into `text`. */
 sloefertand_answer sloefertand_write_tree(const uint16_t *tree, size_t tree_words, uint8_t *text, size_t text_bytes);
 
@@ -274,7 +277,7 @@ sloefertand_answer sloefertand_write_tree(const uint16_t *tree, size_t tree_word
  * Texts may be of any length and any depth. The time grows with the length, and no more than that where at most 4,096 elements are
  * open at once; a deeper text is gone through again from its start once for each 4,096 levels that it comes up.
  * Refusals: 14 of table 7 where the text has another shape; the place is the length of its longest start that some right text has,
- * so all of it where something is missing at its end. 2 of table 3 where there are more than 256 nodes; then 7.
+ * so all of it where something is missing at its end. 2 of table 3 where there are more than 1,024 nodes; then 7.
  * SLOEFERTAND_TREE_WORDS are always enough. */
 sloefertand_answer sloefertand_read_tree(const uint8_t *text, size_t text_bytes, uint16_t *words, size_t words_words);
 

@@ -14,7 +14,7 @@
 #include "sloefertand.h"
 
 #define COUNT(array) (sizeof(array) / sizeof((array)[0]))
-#define NODES 256u /* nodes of a document here: a witness and one copy below each of its nodes */
+#define NODES SLOEFERTAND_TREE_NODES /* nodes of a document here: a witness and one copy below each of its nodes */
 
 /* Names and the elements of their labels. */
 static const char names[] = "a\nb\nc\nd\ne\n", elements[] = "n1\nn2\nn3\nn4\nn5\n";

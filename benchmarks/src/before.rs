@@ -4,7 +4,7 @@
 use crate::documents::{Document, Read};
 use crate::measure::{fastest, text};
 use crate::proved::reading;
-use crate::rows::{beside, read_of_64_steps, reads, xpath};
+use crate::rows::{beside, long_read, reads, xpath};
 use crate::{peer, proved};
 use std::hint::black_box;
 
@@ -42,7 +42,7 @@ pub fn print() {
     println!("|---|---|---|---|---|---|---|");
     for document in Document::all() {
         let mut all = reads();
-        all.push(read_of_64_steps());
+        all.push(long_read(64));
         for read in all {
             let times = times(&document, &read);
             println!(

@@ -10,7 +10,7 @@ use std::hint::black_box;
 pub const LABELS: usize = 65535;
 
 /// Room for any witness.
-pub const WITNESS: usize = 254;
+pub const WITNESS: usize = 1018;
 
 /// A row's name and its times: the library's, the peer's and, where there is one, libxml2's.
 fn print_row(name: &str, times: &[f64]) {
@@ -289,7 +289,21 @@ pub fn print() {
         "verdict, 64 against 64 steps, 256 inserted nodes",
         &insert_verdict(64, 256),
     );
+    print_row("verdict, 4 against 4 steps, witness of 7 nodes", &delete_verdict(4));
+    print_row("verdict, 4 against 4 steps, 4 inserted nodes", &insert_verdict(4, 4));
+    print_row(
+        "verdict, 255 against 255 steps, witness of 509 nodes",
+        &delete_verdict(255),
+    );
+    print_row(
+        "verdict, 255 against 255 steps, 1,024 inserted nodes",
+        &insert_verdict(255, 1024),
+    );
     for (mode, name) in [(1, "node"), (2, "deep")] {
+        print_row(
+            &format!("{name} plan, 32 frames of 255 steps, deletes and reads, 256 verdicts"),
+            &plan(mode, false, 32, 255),
+        );
         print_row(
             &format!("{name} plan, 128 frames of 63 steps, deletes and reads, 4,096 verdicts"),
             &plan(mode, false, 128, 63),
@@ -298,6 +312,13 @@ pub fn print() {
             &format!("{name} plan, 128 frames of 62 steps, inserts and reads, 4,096 verdicts"),
             &plan(mode, true, 128, 62),
         );
+    }
+    for steps in [3, 255] {
+        for (shown, end) in [(true, "last new node"), (false, "no difference")] {
+            let name =
+                format!("proposed tree, insert, 1,023 points, 1,024 inserted nodes, read of {steps} steps, {end}");
+            print_row(&name, &insert_evidence(steps, 1024, shown));
+        }
     }
     for steps in [3, 64] {
         for (shown, end) in [(true, "last new node"), (false, "no difference")] {
@@ -308,6 +329,18 @@ pub fn print() {
     for (shown, end) in [(true, "last node lost"), (false, "no difference")] {
         let name = format!("proposed tree, delete, 256 nodes, 64 against 64 steps, {end}");
         print_row(&name, &delete_evidence(64, 256, shown));
+    }
+    for (shown, end) in [(true, "last node lost"), (false, "no difference")] {
+        let name = format!("proposed tree, delete, 1,024 nodes, 255 against 255 steps, {end}");
+        print_row(&name, &delete_evidence(255, 1024, shown));
+    }
+    for (tree, name) in [
+        (random_tree(1024, LABELS), "random tree"),
+        (chain(1024, LABELS), "chain"),
+    ] {
+        let size = "1,024 nodes, labels to 5 digits";
+        print_row(&format!("tags, {name}, {size}"), &write_tree(&tree));
+        print_row(&format!("tags read, {name}, {size}"), &read_tree(&tree));
     }
     print_row(
         "tags, random tree, 256 nodes, labels to 5 digits",
@@ -327,7 +360,7 @@ pub fn print() {
     );
     for document in Document::all() {
         let mut all = reads();
-        all.push(read_of_64_steps());
+        all.extend([64, 65, 128, 255].map(long_read));
         for read in all {
             let name = format!(
                 "read {}, {}, 4,096 nodes, {} deep",
@@ -340,10 +373,10 @@ pub fn print() {
     }
 }
 
-/// A pattern of 64 descendant steps; libxml2's answer to such a path is not waited for.
-pub fn read_of_64_steps() -> Read {
+/// A pattern of so many descendant steps; libxml2's answer to such a path is not waited for.
+pub fn long_read(steps: usize) -> Read {
     Read {
         text: None,
-        words: descending(64, 1, 0),
+        words: descending(steps, 1, 0),
     }
 }

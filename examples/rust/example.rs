@@ -6,10 +6,10 @@
 mod sloefertand {
     /// Words with room for the plan of any batch, for the witness of any verdict, for any tree, for any line, and for any pattern.
     pub const FRAMES: usize = 128;
-    pub const WITNESS_WORDS: usize = 254;
-    pub const TREE_WORDS: usize = 512;
-    pub const LINE_WORDS: usize = 643;
-    pub const PATTERN_WORDS: usize = 128;
+    pub const WITNESS_WORDS: usize = 1018;
+    pub const TREE_WORDS: usize = 2048;
+    pub const LINE_WORDS: usize = 2561;
+    pub const PATTERN_WORDS: usize = 510;
 
     /// The node mode of a plan.
     pub const NODE: usize = 1;

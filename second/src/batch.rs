@@ -211,10 +211,10 @@ mod tests {
 
     #[test]
     fn the_edges_pass_and_one_more_is_refused() {
-        assert_eq!(frames(&read(64)), Ok(1));
-        assert_eq!(frames(&read(65)), no(2, 1));
-        assert_eq!(frames(&insert(256)), Ok(1));
-        assert_eq!(frames(&insert(257)), no(2, 4));
+        assert_eq!(frames(&read(255)), Ok(1));
+        assert_eq!(frames(&read(256)), no(2, 1));
+        assert_eq!(frames(&insert(1_024)), Ok(1));
+        assert_eq!(frames(&insert(1_025)), no(2, 4));
         assert_eq!(frames(&read(1).repeat(128)), Ok(128));
         assert_eq!(frames(&read(1).repeat(129)), no(10, 512));
         assert_eq!(frames(&full(&[])), Ok(127));
@@ -245,14 +245,14 @@ mod tests {
         assert_eq!(frames(&[0]), no(8, 0));
         assert_eq!(frames(&[1]), no(9, 1));
         assert_eq!(frames(&[1, 0]), no(1, 1));
-        assert_eq!(frames(&[1, 65]), no(2, 1));
+        assert_eq!(frames(&[1, 256]), no(2, 1));
         assert_eq!(frames(&[1, 1, 1]), no(9, 3));
         assert_eq!(frames(&[1, 1, 1, 0]), no(3, 2));
         assert_eq!(frames(&[3, 1, 1, 0]), no(3, 2));
         assert_eq!(frames(&[3, 1, 0, 0]), no(6, 1));
         assert_eq!(frames(&[2, 1, 0, 0]), no(9, 4));
         assert_eq!(frames(&[2, 1, 0, 0, 0]), no(1, 4));
-        assert_eq!(frames(&[2, 1, 0, 0, 257]), no(2, 4));
+        assert_eq!(frames(&[2, 1, 0, 0, 1_025]), no(2, 4));
         assert_eq!(frames(&[2, 1, 0, 0, 1, 1]), no(9, 6));
         assert_eq!(frames(&[2, 1, 0, 0, 1, 1, 0]), no(4, 5));
         assert_eq!(frames(&[2, 1, 0, 0, 1, 0, 0]), no(5, 6));
@@ -266,7 +266,7 @@ mod tests {
         assert_eq!(behind(&[4]), no(8, 13));
         assert_eq!(behind(&[1]), no(9, 14));
         assert_eq!(behind(&[1, 0]), no(1, 14));
-        assert_eq!(behind(&[1, 65]), no(2, 14));
+        assert_eq!(behind(&[1, 256]), no(2, 14));
         assert_eq!(behind(&[1, 3, 0, 0, 2, 0, 0, 0]), no(3, 19));
         assert_eq!(behind(&[3, 1, 0, 0]), no(6, 14));
         assert_eq!(behind(&[2, 1, 0, 0, 2, 0, 1, 1, 1]), no(4, 20));
@@ -279,14 +279,14 @@ mod tests {
         assert_eq!(ends_in(&[0]), no(8, 16_383));
         assert_eq!(ends_in(&[1]), no(9, 16_384));
         assert_eq!(ends_in(&[1, 0]), no(1, 16_383));
-        assert_eq!(ends_in(&[1, 65]), no(2, 16_383));
+        assert_eq!(ends_in(&[1, 256]), no(2, 16_383));
         assert_eq!(ends_in(&[1, 1, 0]), no(9, 16_384));
         assert_eq!(ends_in(&[1, 1, 1, 0]), no(3, 16_382));
         assert_eq!(ends_in(&[1, 2, 0, 0, 3, 0]), no(3, 16_382));
         assert_eq!(ends_in(&[3, 1, 0, 0]), no(6, 16_381));
         assert_eq!(ends_in(&[2, 1, 0, 0]), no(9, 16_384));
         assert_eq!(ends_in(&[2, 1, 0, 0, 0]), no(1, 16_383));
-        assert_eq!(ends_in(&[2, 1, 0, 0, 257]), no(2, 16_383));
+        assert_eq!(ends_in(&[2, 1, 0, 0, 1_025]), no(2, 16_383));
         assert_eq!(ends_in(&[2, 1, 0, 0, 1, 0]), no(9, 16_384));
         assert_eq!(ends_in(&[2, 1, 0, 0, 1, 1, 1]), no(4, 16_382));
         assert_eq!(ends_in(&[2, 1, 0, 0, 1, 0, 0]), no(5, 16_383));
@@ -294,14 +294,14 @@ mod tests {
 
     #[test]
     fn the_last_step_and_the_last_node_have_places() {
-        let mut steps = read(64);
-        steps[128] = 0;
-        assert_eq!(frames(&steps), no(3, 128));
-        let mut nodes = insert(256);
-        nodes[516] = 0;
-        assert_eq!(frames(&nodes), no(5, 516));
-        nodes[515] = 255;
-        assert_eq!(frames(&nodes), no(4, 515));
+        let mut steps = read(255);
+        steps[510] = 0;
+        assert_eq!(frames(&steps), no(3, 510));
+        let mut nodes = insert(1_024);
+        nodes[2_052] = 0;
+        assert_eq!(frames(&nodes), no(5, 2_052));
+        nodes[2_051] = 1_023;
+        assert_eq!(frames(&nodes), no(4, 2_051));
     }
 
     #[test]

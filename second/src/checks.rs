@@ -75,9 +75,9 @@ mod tests {
     fn a_pattern_is_checked_in_order() {
         let no = |words: &[u16]| pattern(words, 2).unwrap_err();
         assert_eq!(no(&[]), refused(1, 2, 0));
-        assert_eq!(no(&[9; 131]), refused(1, 2, 0));
-        assert_eq!(no(&[9; 130]), refused(2, 2, 0));
-        assert_eq!(no(&[9; 128]), refused(3, 2, 0));
+        assert_eq!(no(&[9; 513]), refused(1, 2, 0));
+        assert_eq!(no(&[9; 512]), refused(2, 2, 0));
+        assert_eq!(no(&[9; 510]), refused(3, 2, 0));
         assert_eq!(no(&[0, 9, 1, 9, 0, 9, 3, 9]), refused(3, 2, 2));
         let words = [0, 1, 1, 0, 2, 2];
         assert_eq!(pattern(&words, 2), Ok(examples::pattern("a/*//b")));

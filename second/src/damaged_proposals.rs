@@ -176,7 +176,7 @@ mod tests {
             "insert 2 9 3 2 1",
             "insert 3 10 4 3 2",
             "insert 5 0 ok 3",
-            "insert 5 3 ok 256",
+            "insert 5 3 ok 1024",
             "insert 5 11 5 5 0",
         ] {
             assert!(lines.contains(&line), "{line}");

@@ -15,7 +15,7 @@ struct Way {
 
 /// The ways. The longest text has fewer than 100,000 bytes.
 const WAYS: [Way; 6] = [
-    Way::once(300),
+    Way::once(1_200),
     Way::once(4_096),
     Way::once(4_097),
     Way::once(9_000),
@@ -163,7 +163,7 @@ mod tests {
 
     #[test]
     fn a_damaged_text_is_wrong_where_it_leaves_the_right_one() {
-        for way in [Way::once(300), Way::again(5_000, 4_100)] {
+        for way in [Way::once(1_200), Way::again(5_000, 4_100)] {
             let right = way.text(None);
             for (level, damage) in way.levels().flat_map(|l| DAMAGES.map(|d| (l, d))) {
                 let text = way.text(Some((level, damage(level))));

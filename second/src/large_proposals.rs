@@ -9,10 +9,10 @@ use std::io::{self, Write};
 const SHAPES: [usize; 5] = [1, 2, 3, 4, 5];
 
 /// Nodes of a tree with a marked node, and of an inserted one.
-const MARKED: [(usize, usize); 5] = [(2, 256), (16, 256), (17, 256), (256, 1), (256, 256)];
+const MARKED: [(usize, usize); 5] = [(2, 1_024), (16, 256), (17, 256), (1_024, 1), (1_024, 64)];
 
 /// Nodes of a tree with a marked node from which others are deleted.
-const MARKED_FOR_DELETE: [usize; 3] = [2, 17, 256];
+const MARKED_FOR_DELETE: [usize; 3] = [2, 17, 1_024];
 
 /// The label of the marked node of a tree.
 const MARK: u16 = 2;
@@ -33,7 +33,7 @@ const TO_BOTH: [u16; 6] = [0, 0, 2, MARK, 2, INSERTED_MARK];
 const UNMARKED: [u16; 4] = [0, 0, 2, 1];
 
 /// Steps of the ways that reads are drawn along.
-const LENGTHS: [usize; 3] = [2, 4, 32];
+const LENGTHS: [usize; 4] = [2, 4, 32, 127];
 
 /// How many cases there are along ways, of one shape and one number of steps.
 const CASES: usize = 16;
@@ -138,7 +138,7 @@ mod tests {
 
     #[test]
     fn the_last_of_all_numbers_is_reached() {
-        assert_eq!(marked_inserts(2, 256, 256)[8], Ok(65_535));
+        assert_eq!(marked_inserts(2, 1_024, 64)[8], Ok(66_495));
     }
 
     #[test]
@@ -150,14 +150,14 @@ mod tests {
     #[test]
     fn along_ways_some_of_the_longest_reads_find_a_node() {
         let cases = (0..CASES).map(|number| Case {
-            shape: 1,
-            steps: 32,
+            shape: 4,
+            steps: 127,
             number,
         });
         let ways: Vec<_> = cases.map(Case::insert).collect();
-        assert!(ways.iter().all(|w| w.read.len() == 128));
+        assert!(ways.iter().all(|w| w.read.len() == 508));
         let answer = |w: &Ways| evidence::insert(&w.read, &w.points, &w.inserted, &w.tree);
         let found = ways.iter().filter(|w| answer(w).unwrap() > 0).count();
-        assert!((4..=12).contains(&found), "{found} of 16");
+        assert!((2..=12).contains(&found), "{found} of 16");
     }
 }

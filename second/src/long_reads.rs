@@ -1,4 +1,4 @@
-//! Table 7: reads of 1 to 64 steps on documents of 256 nodes, drawn at random.
+//! Table 7: reads of 1 to 255 steps on documents of 1,024 nodes, drawn at random.
 
 use crate::carrying::answer;
 use crate::counts::{Count, Counts};
@@ -9,7 +9,9 @@ use crate::tree::{Row, Tree, ROOT};
 use std::io::{self, Write};
 
 /// How many steps the patterns have.
-const LENGTHS: [usize; 8] = [1, 2, 31, 32, 33, 62, 63, 64];
+const LENGTHS: [usize; 17] = [
+    1, 2, 31, 32, 33, 62, 63, 64, 65, 127, 128, 129, 191, 192, 193, 254, 255,
+];
 
 /// How many documents there are.
 const DOCUMENTS: usize = 8;
@@ -18,7 +20,7 @@ const DOCUMENTS: usize = 8;
 const PATTERNS: usize = 64;
 
 /// The nodes of a document.
-const NODES: usize = 256;
+const NODES: usize = 1_024;
 
 /// The labels of the nodes, which have bytes in common.
 pub const LABELS: [u16; 6] = [0x0001, 0x0100, 0x0101, 0x0201, 0xFF01, 0xFFFF];
@@ -27,7 +29,7 @@ pub const LABELS: [u16; 6] = [0x0001, 0x0100, 0x0101, 0x0201, 0xFF01, 0xFFFF];
 const FIRST_MARKED: usize = 4;
 
 /// They begin at this node.
-const FIRST_REMOVED: usize = 128;
+const FIRST_REMOVED: usize = 512;
 
 /// What the reads by patterns of one length answer.
 #[derive(Default)]
@@ -151,11 +153,11 @@ mod tests {
     fn of_the_longest_reads_some_select_and_some_do_not() {
         let selects = |d: usize, k: usize| {
             let tree = document(d);
-            answer(&tree, &pattern(&tree, 64, d, k)).contains(&1)
+            answer(&tree, &pattern(&tree, 255, d, k)).contains(&1)
         };
         let reads = (0..DOCUMENTS).flat_map(|d| (0..PATTERNS).map(move |k| (d, k)));
         let some = reads.filter(|&(d, k)| selects(d, k)).count();
-        assert!((128..=384).contains(&some), "{some} of 512");
+        assert!((64..=448).contains(&some), "{some} of 512");
     }
 
     #[test]

@@ -171,8 +171,8 @@ mod tests {
         assert_eq!(check(""), Ok(()));
         assert_eq!(check(READ), Ok(()));
         assert_eq!(behind_reads(1, READ), "ok");
-        assert_eq!(insert(64, 256).len(), LINE_DIGITS);
-        assert_eq!(behind_reads(1, &insert(64, 256)), "ok");
+        assert_eq!(insert(255, 1_024).len(), LINE_DIGITS);
+        assert_eq!(behind_reads(1, &insert(255, 1_024)), "ok");
     }
 
     #[test]
@@ -180,7 +180,7 @@ mod tests {
         assert_eq!(behind_reads(0, "0005"), "1:8:0");
         assert_eq!(behind_reads(1, "000100020000000100030001"), "2:3:4");
         assert_eq!(behind_reads(2, "00010000"), "3:1:1");
-        assert_eq!(behind_reads(2, "00010041"), "3:2:1");
+        assert_eq!(behind_reads(2, "00010100"), "3:2:1");
         assert_eq!(behind_reads(3, "0003000100000001"), "4:6:1");
         assert_eq!(behind_reads(3, "0002000100000000000100010001"), "4:4:5");
         assert_eq!(behind_reads(3, "0002000100000000000100000000"), "4:5:6");
@@ -188,10 +188,10 @@ mod tests {
 
     #[test]
     fn the_last_label_of_the_longest_line_has_an_offset() {
-        let line = insert(64, 256);
+        let line = insert(255, 1_024);
         let zero = format!("{}0000", &line[..line.len() - 4]);
-        assert_eq!(behind_reads(1, &zero), "2:5:642");
-        assert_eq!(behind_reads(1, &line[..line.len() - 4]), "2:9:642");
+        assert_eq!(behind_reads(1, &zero), "2:5:2560");
+        assert_eq!(behind_reads(1, &line[..line.len() - 4]), "2:9:2560");
     }
 
     #[test]
@@ -206,8 +206,8 @@ mod tests {
         assert_eq!(behind_reads(1, &READ.repeat(2)), "2:9:4");
         assert_eq!(behind_reads(1, "00010001000000010001"), "2:9:4");
         assert_eq!(behind_reads(1, "00030001000000010001"), "2:6:1");
-        let longest = format!("{}00000000", insert(64, 255));
-        assert_eq!(behind_reads(1, &longest), "2:9:641");
+        let longest = format!("{}00000000", insert(255, 1_023));
+        assert_eq!(behind_reads(1, &longest), "2:9:2559");
     }
 
     #[test]
@@ -217,7 +217,7 @@ mod tests {
             assert_eq!(behind_reads(1, line), "2:13:0");
             assert_eq!(behind(1, line, READ), "1:13:0");
         }
-        let too_long = format!("{}0000", insert(64, 256));
+        let too_long = format!("{}0000", insert(255, 1_024));
         assert_eq!(behind_reads(1, &too_long), "2:13:0");
     }
 
@@ -229,13 +229,19 @@ mod tests {
         assert_eq!(behind_reads(128, "000"), "129:13:0");
     }
 
+    /// Six of the longest lines and a short one, of 15,373 words.
+    fn seven_long() -> String {
+        let longest = repeated(6, &insert(255, 1_024));
+        format!("{longest}{}\n", insert(1, 1))
+    }
+
     #[test]
     fn words_too_many_have_no_offset() {
-        let longest = insert(64, 256);
-        assert_eq!(behind(25, &longest, &insert(1, 152)), "ok");
-        assert_eq!(behind(25, &longest, &insert(1, 153)), "26:10:0");
-        assert_eq!(behind(25, &longest, &"0".repeat(4 * 309)), "26:8:0");
-        assert_eq!(behind(25, &longest, &"0".repeat(4 * 310)), "26:10:0");
+        let last = |line: &str| answer(&format!("{}{line}\n", seven_long()));
+        assert_eq!(last(&insert(1, 503)), "ok");
+        assert_eq!(last(&insert(1, 504)), "8:10:0");
+        assert_eq!(last(&"0".repeat(4 * 1_011)), "8:8:0");
+        assert_eq!(last(&"0".repeat(4 * 1_012)), "8:10:0");
     }
 
     /// The mode lines.
@@ -320,7 +326,7 @@ mod tests {
             ("0000", "8:0"),
             ("0001", "9:1"),
             ("00010000", "1:1"),
-            ("00010041", "2:1"),
+            ("00010100", "2:1"),
             ("000100020000000100030001", "3:4"),
             ("0003000100000001", "6:1"),
             ("0002000100000000000100010001", "4:5"),
@@ -347,12 +353,12 @@ mod tests {
 
     #[test]
     fn a_mode_line_is_not_among_the_words() {
-        let longest = repeated(25, &insert(64, 256));
-        let most = insert(1, 152);
-        assert_eq!(25 * 643 + most.len() / 4, BATCH_WORDS);
-        assert_eq!(behind_mode(&format!("{longest}{most}")), "ok");
-        let more = insert(1, 153);
-        assert_eq!(behind_mode(&format!("{longest}{more}")), "27:10:0");
-        assert_eq!(behind_mode(&format!("{longest}{most}\n{READ}")), "28:10:0");
+        let long = seven_long();
+        let most = insert(1, 503);
+        assert_eq!(6 * 2_561 + 7 + most.len() / 4, BATCH_WORDS);
+        assert_eq!(behind_mode(&format!("{long}{most}")), "ok");
+        let more = insert(1, 504);
+        assert_eq!(behind_mode(&format!("{long}{more}")), "9:10:0");
+        assert_eq!(behind_mode(&format!("{long}{most}\n{READ}")), "10:10:0");
     }
 }

@@ -9,6 +9,9 @@ use crate::tree::{rows_of, words_of, Row, Tree};
 /// The label of a node without a mark.
 const PLAIN: u16 = 1;
 
+/// A read along a way of more steps than this has larger trees.
+const LONG: usize = 32;
+
 /// The drawn tree of a shape with so many nodes.
 pub fn drawn(shape: usize, nodes: usize) -> Vec<u16> {
     let mut draws = Draws::from_state(1000 * shape + nodes);
@@ -45,9 +48,18 @@ pub struct Case {
 }
 
 impl Case {
+    /// Long reads have larger trees: this many times as many nodes.
+    fn scale(self) -> usize {
+        if self.steps > LONG {
+            4
+        } else {
+            1
+        }
+    }
+
     /// The nodes of the proposed tree.
     fn nodes(self) -> usize {
-        16 * (self.number + 1)
+        self.scale() * 16 * (self.number + 1)
     }
 
     /// The proposed tree.
@@ -58,7 +70,7 @@ impl Case {
     /// The inserted tree, which gets smaller. It is deep where the proposed one is.
     fn inserted(self) -> Vec<u16> {
         let shape = [4, 3, 2, 1, 5][self.shape - 1];
-        drawn(shape, 256 - 15 * self.number)
+        drawn(shape, self.scale() * (256 - 15 * self.number))
     }
 
     /// The row of numbers that one of its three ways is drawn from.

@@ -34,10 +34,10 @@ mod tests {
     #[test]
     fn refusals_come_in_order() {
         assert_eq!(read(&Err(3), 0), Err(refused(14, 7, 3)));
-        assert_eq!(read(&star(257), 0), Err(refused(2, 3, 0)));
-        assert_eq!(read(&star(257), 514), Err(refused(2, 3, 0)));
-        assert_eq!(read(&star(256), 511), Err(refused(7, 4, 0)));
-        assert_eq!(read(&star(256), 512).unwrap().len(), 512);
+        assert_eq!(read(&star(1_025), 0), Err(refused(2, 3, 0)));
+        assert_eq!(read(&star(1_025), 2_050), Err(refused(2, 3, 0)));
+        assert_eq!(read(&star(1_024), 2_047), Err(refused(7, 4, 0)));
+        assert_eq!(read(&star(1_024), 2_048).unwrap().len(), 2_048);
         assert_eq!(read(&star(2), 9), Ok(vec![0, 1, 0, 1]));
     }
 }

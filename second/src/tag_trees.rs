@@ -49,17 +49,17 @@ pub const SHAPES: [Shape; 6] = [
     Shape::Far,
 ];
 
-/// How many nodes large trees have: multiples of 32, up to the limit.
-pub const LARGE_SIZES: [usize; 8] = [32, 64, 96, 128, 160, 192, 224, 256];
+/// How many nodes large trees have: multiples of 128, up to the limit.
+pub const LARGE_SIZES: [usize; 8] = [128, 256, 384, 512, 640, 768, 896, 1_024];
 
 /// The shape that is damaged.
 const DAMAGED_SHAPE: usize = 4;
 
 /// How many nodes it has, one more than may be written.
-const DAMAGED_NODES: usize = 257;
+const DAMAGED_NODES: usize = 1_025;
 
 /// Nodes that are damaged lie so far apart, from the first to the last that may be written.
-const APART: usize = 85;
+const APART: usize = 341;
 
 /// How many of them there are.
 const PLACES: usize = 4;
@@ -174,11 +174,11 @@ mod tests {
 
     #[test]
     fn damages_are_within_the_words() {
-        let tables: Vec<Vec<u16>> = damaged(512).collect();
+        let tables: Vec<Vec<u16>> = damaged(2_048).collect();
         assert_eq!(tables.len(), 25);
-        assert_eq!(tables[24], large(4, 257)[..512]);
+        assert_eq!(tables[24], large(4, 1_025)[..2_048]);
         assert_eq!(tables[0][..2], [1, 0]);
-        assert_eq!((tables[3][510], tables[3][1]), (255, 0));
+        assert_eq!((tables[3][2_046], tables[3][1]), (1_023, 0));
         assert_eq!(damaged(0).last(), Some(Vec::new()));
     }
 }

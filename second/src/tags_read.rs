@@ -58,13 +58,13 @@ const LABELS: [&str; 16] = [
 const LABEL_ROOM: usize = 3;
 
 /// Trees of so many nodes are put inside another element.
-const INSIDE_SIZES: [usize; 3] = [254, 255, 256];
+const INSIDE_SIZES: [usize; 3] = [1_022, 1_023, 1_024];
 
 /// Trees of so many nodes have their texts damaged.
 const DAMAGED_NODES: usize = 96;
 
 /// Words of the whole buffer that large trees are read into, one more than any needs.
-const LARGE_ROOM: usize = 513;
+const LARGE_ROOM: usize = 2_049;
 
 /// Writes table 11.
 pub fn write(out: &mut dyn Write) -> io::Result<Counts> {

@@ -36,10 +36,10 @@ const WORDS: &[u16] = &[0, 1, 2, 3];
 const WORDS_ROOM: usize = 24;
 
 /// Bytes of their whole buffer, some more than any needs.
-const LARGE_ROOM: usize = 4_352;
+const LARGE_ROOM: usize = 17_408;
 
 /// How many words a damaged tree is cut to.
-const DAMAGED_WORDS: [usize; 6] = [0, 1, 511, 512, 513, 514];
+const DAMAGED_WORDS: [usize; 6] = [0, 1, 2_047, 2_048, 2_049, 2_050];
 
 /// What each byte of a buffer is before a call.
 const FILLING: u8 = b'.';
@@ -187,9 +187,9 @@ mod tests {
 
     #[test]
     fn no_text_is_longer_than_the_longest() {
-        let longest = |shape: usize| tree_texts::write(&large(shape, 256), LARGE_ROOM);
+        let longest = |shape: usize| tree_texts::write(&large(shape, 1_024), LARGE_ROOM);
         let lengths = [0, 1, 2, 3, 4, 5].map(|shape| longest(shape).unwrap().len());
-        assert_eq!(lengths[0], 255 * 17 + 9);
+        assert_eq!(lengths[0], 1_023 * 17 + 9);
         assert!(lengths[1..].iter().all(|&length| length < lengths[0]));
     }
 
@@ -197,7 +197,7 @@ mod tests {
     fn of_the_damaged_trees_one_is_written() {
         let found: Vec<Vec<usize>> = lines(write_damaged).iter().map(|l| numbers(l)).collect();
         for numbers in found {
-            let right = usize::from(numbers[0] == 512);
+            let right = usize::from(numbers[0] == 2_048);
             assert_eq!(numbers[1..3], [50 + right, 2 * right]);
         }
     }

@@ -30,9 +30,9 @@ mod tests {
     fn refusals_come_in_order() {
         assert_eq!(write(&[], 0), no(1, 0));
         assert_eq!(write(&[9], 0), no(1, 0));
-        assert_eq!(write(&[9; 515], 0), no(1, 0));
-        assert_eq!(write(&[9; 514], 0), no(2, 0));
-        assert_eq!(write(&[9; 512], 0), no(4, 0));
+        assert_eq!(write(&[9; 2_051], 0), no(1, 0));
+        assert_eq!(write(&[9; 2_050], 0), no(2, 0));
+        assert_eq!(write(&[9; 2_048], 0), no(4, 0));
         assert_eq!(write(&[1, 0], 0), no(4, 0));
         assert_eq!(write(&[0, 0, 1, 0], 0), no(5, 0));
         assert_eq!(write(&[0, 1, 1, 0], 0), no(4, 1));
@@ -54,7 +54,7 @@ mod tests {
 
     #[test]
     fn the_limit_passes_and_one_more_is_refused() {
-        assert!(write(&large(1, 256), 10_000).is_ok());
-        assert_eq!(write(&large(1, 257), 10_000), no(2, 0));
+        assert!(write(&large(1, 1_024), 20_000).is_ok());
+        assert_eq!(write(&large(1, 1_025), 20_000), no(2, 0));
     }
 }

@@ -4,7 +4,7 @@
 /// the limits of steps and nodes and one more than each, the greatest word.
 const VALUES: [u16; 21] = [
     0, 1, 2, 3, 4, 5, 6, 7, 8, 9, 10, 11, 12, 13, 14, 15, //
-    64, 65, 256, 257, 65_535,
+    255, 256, 1_024, 1_025, 65_535,
 ];
 
 /// What happens to a word.

@@ -2,31 +2,24 @@
 
 use super::{first, label, stays, takes, STEPS, TREE_NODES};
 
-/// For each node of the tree, in which states a run may be that goes on to the last step at or below it.
-pub type Rows = [[bool; STEPS]; TREE_NODES];
-
-/// Whether, from node v's row, a run is in state k above v.
-fn leaves(read: &[u16], tree: &[u16], rows: &Rows, v: usize, k: usize) -> bool {
-    (rows[v][k + 1] && takes(label(read, k + 1), label(tree, v))) || (rows[v][k] && stays(read, k))
-}
-
-/// Fills the rows from the last node up.
-pub fn climb(read: &[u16], tree: &[u16], rows: &mut Rows) {
-    let last = read.len() / 2 - 1;
+/// For each state before the last whether the read, in this state at the update point, reaches its last step in the tree. States
+/// go from the last down, with two rows of nodes: those at which a run may be in the next state, and in this one.
+pub fn entering(read: &[u16], tree: &[u16]) -> [bool; STEPS] {
     let nodes = tree.len() / 2;
-    for row in rows.iter_mut().take(nodes) {
-        row[last] = true;
-    }
-    for v in (1..nodes).rev() {
-        for k in (0..last).rev() {
-            if leaves(read, tree, rows, v, k) {
-                rows[first(tree, v)][k] = true;
+    let mut next = [true; TREE_NODES];
+    let mut enters = [false; STEPS];
+    for k in (0..read.len() / 2 - 1).rev() {
+        let step = label(read, k + 1);
+        let may_stay = stays(read, k);
+        let mut own = [false; TREE_NODES];
+        let leaves = |own: &[bool], v: usize| (next[v] && takes(step, label(tree, v))) || (own[v] && may_stay);
+        for v in (1..nodes).rev() {
+            if leaves(&own, v) {
+                own[first(tree, v)] = true;
             }
         }
+        enters[k] = leaves(&own, 0);
+        next = own;
     }
-}
-
-/// Whether the read, in state i at the update point, reaches its last step in the tree.
-pub fn enters(read: &[u16], tree: &[u16], rows: &Rows, i: usize) -> bool {
-    leaves(read, tree, rows, 0, i)
+    enters
 }

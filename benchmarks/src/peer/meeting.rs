@@ -1,9 +1,11 @@
-//! The table of shortest common ways of a read and an update, and the way of a cell.
+//! The shortest common ways of a read and an update, a row of numbers at a time, and the way of a cell by its moves.
 
 use super::{label, stays, STEPS};
 
-/// For each state of the read and of the update the labels of the shortest way on which both run, 0 for none.
-pub type Table = [[u16; STEPS]; STEPS];
+/// At the nearest label of a way both land, the read lands, or the update lands.
+const BOTH: u8 = 0;
+const READ: u8 = 1;
+const UPDATE: u8 = 2;
 
 /// Both patterns, and for each whether its last step may stay for nodes below it.
 pub struct Pair<'a> {
@@ -22,13 +24,9 @@ fn onward(may: bool, way: u16) -> u16 {
     }
 }
 
-/// The lesser of two that are there, 0 for none; the first where they are equal.
-fn least(a: u16, b: u16) -> u16 {
-    if a != 0 && (b == 0 || a <= b) {
-        a
-    } else {
-        b
-    }
+/// Whether the first of two ways is there, and the second is not or is no shorter.
+fn sooner(a: u16, b: u16) -> bool {
+    a != 0 && (b == 0 || a <= b)
 }
 
 /// Whether two steps can land on one node.
@@ -53,60 +51,62 @@ impl Pair<'_> {
         }
     }
 
-    /// The three ways to come to a cell: both land, the read lands, the update lands.
-    fn moves(&self, table: &Table, i: usize, j: usize) -> [u16; 3] {
-        let both = if i > 0 && j > 0 {
-            onward(agree(label(self.read, i), label(self.update, j)), table[i - 1][j - 1])
+    /// The cell of two states, from the numbers before it: its number and its move.
+    fn cell(&self, i: usize, j: usize, corner: u16, above: u16, before: u16) -> (u16, u8) {
+        let may = agree(label(self.read, i), label(self.update, j));
+        if i == 0 && j == 0 {
+            return (u16::from(may), BOTH);
+        }
+        let both = if i > 0 && j > 0 { onward(may, corner) } else { 0 };
+        let read = if i > 0 { onward(self.update_stays(j), above) } else { 0 };
+        let update = if j > 0 { onward(self.read_stays(i), before) } else { 0 };
+        let (alone, step) = if sooner(read, update) {
+            (read, READ)
         } else {
-            0
+            (update, UPDATE)
         };
-        let read = if i > 0 {
-            onward(self.update_stays(j), table[i - 1][j])
+        if sooner(both, alone) {
+            (both, BOTH)
         } else {
-            0
-        };
-        let update = if j > 0 {
-            onward(self.read_stays(i), table[i][j - 1])
-        } else {
-            0
-        };
-        [both, read, update]
-    }
-
-    /// Fills the table row by row.
-    pub fn fill(&self, table: &mut Table) {
-        for i in 0..self.read.len() / 2 {
-            for j in 0..self.update.len() / 2 {
-                table[i][j] = if i == 0 && j == 0 {
-                    u16::from(agree(label(self.read, 0), label(self.update, 0)))
-                } else {
-                    let [both, read, update] = self.moves(table, i, j);
-                    least(both, least(read, update))
-                };
-            }
+            (alone, step)
         }
     }
 
-    /// Writes the way of a cell as a chain, from its last node back.
-    pub fn trace(&self, table: &Table, mut i: usize, mut j: usize, out: &mut [u16]) {
-        for node in (0..table[i][j] as usize).rev() {
-            let (read, update) = (label(self.read, i), label(self.update, j));
-            let (name, up, left) = if i == 0 && j == 0 {
-                (if read == 0 { update } else { read }, false, false)
-            } else {
-                let [both, one, other] = self.moves(table, i, j);
-                if both != 0 && least(both, least(one, other)) == both {
-                    (if read == 0 { update } else { read }, true, true)
-                } else if one != 0 && least(one, other) == one {
-                    (read, true, false)
-                } else {
-                    (update, false, true)
+    /// Goes through the rows and tells for each state of the read the number in the update's last column. Moves are kept
+    /// as far as there is room.
+    pub fn rows(&self, moves: &mut [u8], mut told: impl FnMut(usize, u16)) {
+        let n = self.update.len() / 2;
+        let mut row = [0; STEPS];
+        for i in 0..self.read.len() / 2 {
+            let (mut corner, mut before) = (0, 0);
+            for (j, number) in row.iter_mut().enumerate().take(n) {
+                let above = *number;
+                let (own, step) = self.cell(i, j, corner, above, before);
+                if let Some(kept) = moves.get_mut(n * i + j) {
+                    *kept = step;
                 }
+                (*number, corner, before) = (own, above, own);
+            }
+            told(i, before);
+        }
+    }
+
+    /// Writes the way of state i, of so many labels, as a chain, from its last node back.
+    pub fn trace(&self, moves: &[u8], labels: u16, mut i: usize, out: &mut [u16]) {
+        let n = self.update.len() / 2;
+        let mut j = n - 1;
+        for node in (0..usize::from(labels)).rev() {
+            let (read, update) = (label(self.read, i), label(self.update, j));
+            let step = moves[n * i + j];
+            let name = match step {
+                BOTH if read == 0 => update,
+                UPDATE => update,
+                _ => read,
             };
             out[2 * node] = node.saturating_sub(1) as u16;
             out[2 * node + 1] = name.max(1);
-            i -= usize::from(up);
-            j -= usize::from(left);
+            i = i.saturating_sub(usize::from(step != UPDATE));
+            j = j.saturating_sub(usize::from(step != READ));
         }
     }
 }

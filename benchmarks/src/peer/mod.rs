@@ -11,9 +11,9 @@ pub mod tags_in;
 pub mod verdict;
 
 /// Steps of a pattern at most.
-pub const STEPS: usize = 64;
+pub const STEPS: usize = 255;
 /// Nodes of an inserted tree at most, of a proposed one, and of one that is written as tags or read.
-pub const TREE_NODES: usize = 256;
+pub const TREE_NODES: usize = 1024;
 /// Nodes in use of a document at most.
 pub const USED: usize = 4096;
 /// Frames of a batch at most.

@@ -1,8 +1,8 @@
 //! The verdicts, with a smallest witness.
 
-use super::entering::{climb, enters};
-use super::meeting::{Pair, Table};
-use super::{checks, Counted, STEPS, TREE_NODES};
+use super::entering::entering;
+use super::meeting::Pair;
+use super::{checks, Counted};
 
 /// 7 where the output has no room for the longest witness.
 fn room(read: &[u16], update: &[u16], out: &[u16]) -> Result<(), usize> {
@@ -10,6 +10,11 @@ fn room(read: &[u16], update: &[u16], out: &[u16]) -> Result<(), usize> {
         return Err(7);
     }
     Ok(())
+}
+
+/// A move for each pair of states.
+fn moves(pair: &Pair) -> Vec<u8> {
+    vec![0; pair.read.len() / 2 * (pair.update.len() / 2)]
 }
 
 /// A read and a delete, without the checks.
@@ -20,11 +25,11 @@ pub fn delete_way(read: &[u16], update: &[u16], out: &mut [u16]) -> usize {
         update,
         update_below: true,
     };
-    let mut table: Table = [[0; STEPS]; STEPS];
-    pair.fill(&mut table);
-    let (i, j) = (read.len() / 2 - 1, update.len() / 2 - 1);
-    pair.trace(&table, i, j, out);
-    table[i][j] as usize
+    let mut moves = moves(&pair);
+    let mut last = (0, 0);
+    pair.rows(&mut moves, |i, way| last = (way, i));
+    pair.trace(&moves, last.0, last.1, out);
+    usize::from(last.0)
 }
 
 /// A read and an insert, without the checks.
@@ -35,25 +40,19 @@ pub fn insert_way(read: &[u16], update: &[u16], tree: &[u16], out: &mut [u16]) -
         update,
         update_below: false,
     };
-    let mut table: Table = [[0; STEPS]; STEPS];
-    pair.fill(&mut table);
-    let mut rows = [[false; STEPS]; TREE_NODES];
-    climb(read, tree, &mut rows);
-    let j = update.len() / 2 - 1;
+    let enters = entering(read, tree);
+    let mut moves = moves(&pair);
     let mut best = (0, 0);
-    for (i, row) in table.iter().enumerate().take(read.len() / 2 - 1) {
-        let way = row[j];
-        if way != 0 && (best.0 == 0 || way < best.0) && enters(read, tree, &rows, i) {
+    pair.rows(&mut moves, |i, way| {
+        if way != 0 && (best.0 == 0 || way < best.0) && enters[i] {
             best = (way, i);
         }
-    }
-    if best.0 != 0 {
-        pair.trace(&table, best.1, j, out);
-    }
-    best.0 as usize
+    });
+    pair.trace(&moves, best.0, best.1, out);
+    usize::from(best.0)
 }
 
-/// Whether some way is hit by both: a deep conflict of a read and a delete, in one table.
+/// Whether some way is hit by both: a deep conflict of a read and a delete.
 pub fn delete_deep(read: &[u16], update: &[u16]) -> bool {
     let pair = Pair {
         read,
@@ -61,12 +60,12 @@ pub fn delete_deep(read: &[u16], update: &[u16]) -> bool {
         update,
         update_below: true,
     };
-    let mut table: Table = [[0; STEPS]; STEPS];
-    pair.fill(&mut table);
-    table[read.len() / 2 - 1][update.len() / 2 - 1] != 0
+    let mut last = 0;
+    pair.rows(&mut [], |_, way| last = way);
+    last != 0
 }
 
-/// A deep conflict of a read and an insert, in one table: at an update point the read has been, or enters the tree.
+/// A deep conflict of a read and an insert: at an update point the read has been, or enters the tree.
 pub fn insert_deep(read: &[u16], update: &[u16], tree: &[u16]) -> bool {
     let pair = Pair {
         read,
@@ -74,15 +73,11 @@ pub fn insert_deep(read: &[u16], update: &[u16], tree: &[u16]) -> bool {
         update,
         update_below: false,
     };
-    let mut table: Table = [[0; STEPS]; STEPS];
-    pair.fill(&mut table);
-    let (i, j) = (read.len() / 2 - 1, update.len() / 2 - 1);
-    if table[i][j] != 0 {
-        return true;
-    }
-    let mut rows = [[false; STEPS]; TREE_NODES];
-    climb(read, tree, &mut rows);
-    (0..i).any(|k| table[k][j] != 0 && enters(read, tree, &rows, k))
+    let mut enters = entering(read, tree);
+    enters[read.len() / 2 - 1] = true;
+    let mut found = false;
+    pair.rows(&mut [], |i, way| found |= way != 0 && enters[i]);
+    found
 }
 
 /// A read and a delete.

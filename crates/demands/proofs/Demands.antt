@@ -71,7 +71,13 @@ use Rattle.text_printer.proofs.Settled.{printed-one}
 use Rattle.text_printer.proofs.Enough.{room-enough}
 use Rattle.text_printer.proofs.Behind.{prints-first}
 use Rattle.text_printer.proofs.Offsets.{offset-none, line-fault, stop-offset}
-use Rattle.demands.specs.Demands.{DemandOne, DemandTwo, Start, DemandThree, InBothModes, EitherOrder, Besides}
+use Rattle.batch_mode.specs.Modes.{relationOf}
+use Rattle.older.proofs.Frames.{frame-other}
+use Rattle.older.proofs.Lines.{take-other, take-kept, line-most}
+use Rattle.older.proofs.Kept.{batch-kept, plan-kept, pair-kept, verdict-kept}
+use Rattle.older.proofs.Numbers.{frame-number, line-number, found-kept}
+use Rattle.older.proofs.Ours.{within-ours, longest-line, frame-ours, take-ours, batch-ours, plan-ours, pair-ours, verdict-ours, long-read}
+use Rattle.demands.specs.Demands.{DemandOne, DemandTwo, Start, DemandThree, InBothModes, EitherOrder, OtherLimits, Besides}
 use Rattle.text_printer.specs.Printer.{refusal, named, misnamed}
 use Rattle.text_printer.proofs.Moded.{moded-plan}
 use Rattle.text_first_line.specs.FirstLine.{firstWords}
@@ -240,6 +246,29 @@ either-order =
           let accepted = accepted-words words fine in
           (orders-marks same accepted calls others, orders-total same accepted calls others);
       calls = calls-some;
+    }
+
+pub other-limits : OtherLimits
+other-limits =
+    record {
+      our-frame = frame-ours;
+      our-line = take-ours;
+      our-batch = batch-ours;
+      our-plan = plan-ours;
+      our-verdict = λ r u words. (pair-ours r u, verdict-ours r u words);
+      older = within-ours;
+      line-most = line-most;
+      longest-line = longest-line;
+      frames-kept = λ o i w b n at f e. found-kept o i w b n at e;
+      lines-kept = take-kept;
+      batches-kept = batch-kept;
+      plans-kept = λ o i w m b before after answer e p. plan-kept o i w b (relationOf m) before after answer e p;
+      verdicts-kept = λ o i w r u words e. (pair-kept o i w r u e, verdict-kept o i w r u words e);
+      frame-answer = λ i j b n at e. frame-other i j b n at e;
+      line-answer = take-other;
+      frame-number = λ i j b n at why e q. frame-number j b at (sym (frame-other i j b n at e) ∙ q);
+      line-number = λ i j l n b why e q. line-number j l n b (sym (take-other i j l n b e) ∙ q);
+      long-read = (sym (frame-ours _ 0 0) ∙ long-read .0, long-read .1);
     }
 
 -- behind a text at the front of a buffer all stays

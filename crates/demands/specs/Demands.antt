@@ -4,6 +4,7 @@
 --   DemandTwo     the verdict and its witness; reading, deleting and inserting, by embeddings
 --   DemandThree   the plan; a batch run call by call, in any order that keeps the plan; in each of the two modes (InBothModes)
 --   EitherOrder   deletes one after another, in any order
+--   OtherLimits   installations with other limits: what is kept, and what an older one answers to a longer frame
 --   Besides       what else the documents say of the calls: deep verdicts, proposed trees, plans, the two readings, the walker, patterns as text,
 --                 trees as tags there and back, what stays, the program's two numbers, P1 to P15
 --
@@ -212,6 +213,36 @@ pub record EitherOrder : Type 0 where
       Deletes ps d one last → Deletes qs d other end → (last ≡ end) × (total one ≡ total other)
   -- there are such calls
   pub calls : (ps : List (List ℕ)) (d : Doc) → CalledInTurn ps d
+
+-- Other limits: installations differ in the steps of a pattern, the nodes of an inserted tree and the digits of a line. What one accepts, another accepts with the same
+-- frames and answers where its limits are no less; and to what one accepts another answers by 2, or by 13 where the line is too long for it, or accepts it
+pub record OtherLimits : Type 0 where
+  -- the checks of this page are those of an installation with our limits; those from before patterns became longer have no greater ones
+  pub our-frame : (b : List ℕ) (n at : ℕ) → frameIn ours b n at ≡ frameCheck b n at
+  pub our-line : (l : List ℕ) (n : ℕ) (b : List ℕ) → takeIn ours l n b ≡ takeCheck l n b
+  pub our-batch : (b : List ℕ) → batchIn ours b ≡ batchCheck b
+  pub our-plan : (b : List ℕ) (words : ℕ) → planIn ours b words ≡ planCheck b words
+  pub our-verdict : (r : List ℕ) (u : Update) (words : ℕ) → (pairIn ours r u ≡ deepCheck r u) × (verdictIn ours r u words ≡ verdictCheck r u words)
+  pub older : Within before-longer ours
+  -- a line that is taken is no longer than that of the longest frame, which is the longest that is read at all
+  pub line-most : (i : Installation) (l : List ℕ) (n : ℕ) (b : List ℕ) → takeIn i l n b ≡ Fine → length l ≤ longest i
+  pub longest-line : (longest ours ≡ digitLimit) × (longest before-longer ≡ before-longer .most-digits)
+  -- old frames: the same frame; a line, a batch, a plan with all its answers, and a verdict, refused for room exactly where it was
+  pub frames-kept : (o i : Installation) → Within o i → (b : List ℕ) (n at : ℕ) (f : Extent) → answered (frameIn o b n at) (frameOf b at) ≡ framed.Found f →
+      answered (frameIn i b n at) (frameOf b at) ≡ framed.Found f
+  pub lines-kept : (o i : Installation) → Within o i → (l : List ℕ) (n : ℕ) (b : List ℕ) → takeIn o l n b ≡ Fine → takeIn i l n b ≡ Fine
+  pub batches-kept : (o i : Installation) → Within o i → (b : List ℕ) → batchIn o b ≡ Fine → batchIn i b ≡ Fine
+  pub plans-kept : (o i : Installation) → Within o i → (m : Mode) (b before after : List ℕ) (answer : Planned) → batchIn o b ≡ Fine →
+      PlanBy (planIn o b (length before)) (relationOf m) b before after answer → PlanBy (planIn i b (length before)) (relationOf m) b before after answer
+  pub verdicts-kept : (o i : Installation) → Within o i → (r : List ℕ) (u : Update) (words : ℕ) → pairIn o r u ≡ Fine → (pairIn i r u ≡ Fine) × (verdictIn o r u words ≡ verdictIn i r u words)
+  -- longer ones: the answer to a frame and to a line, exactly; and its number
+  pub frame-answer : (i j : Installation) (b : List ℕ) (n at : ℕ) → frameIn i b n at ≡ Fine → frameIn j b n at ≡ toFrame j b at
+  pub line-answer : (i j : Installation) (l : List ℕ) (n : ℕ) (b : List ℕ) → takeIn i l n b ≡ Fine → takeIn j l n b ≡ toLine j l n b
+  pub frame-number : (i j : Installation) (b : List ℕ) (n at : ℕ) (why : Refusal) → frameIn i b n at ≡ Fine → frameIn j b n at ≡ Refused why → why .number ≡ 2
+  pub line-number : (i j : Installation) (l : List ℕ) (n : ℕ) (b : List ℕ) (why : Refusal) → takeIn i l n b ≡ Fine → takeIn j l n b ≡ Refused why →
+      ((j .most-digits < length l) × (why .number ≡ 13)) ⊎ ((length l ≤ j .most-digits) × (why .number ≡ 2))
+  -- there is such a frame
+  pub long-read : (frameCheck longRead 0 0 ≡ Fine) × (frameIn before-longer longRead 0 0 ≡ refuse 2 6 1)
 
 -- Besides: what else the documents say of the calls
 pub record Besides : Type 0 where

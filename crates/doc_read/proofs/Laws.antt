@@ -16,13 +16,22 @@ use Rattle.selection.proofs.Rows.{read-row}
 use Rattle.check_read.specs.Readable.{readCheck}
 use Rattle.tables.specs.Checks.{whereFine}
 use Rattle.doc_read.specs.Reading.{Read}
+use Rattle.doc_read.specs.Wanted.{wantedRow, ReadAt}
 use Rattle.doc_read.proofs.Meeting.{fine-document, fine-pattern, fine-room}
 
--- two reads of the same tables give one row and one answer
+-- one check and one row to write give one answer and one row
+settled : {check x y : Checked} {a b : List ℕ} (new before : List ℕ) → x ≡ check → y ≡ check → a ≡ whereFine x new before → b ≡ whereFine y new before → (a ≡ b) × (x ≡ y)
+settled {x = x} {y} new before p q e f =
+    let same : x ≡ y = p ∙ sym q in
+    (e ∙ ap (λ (z : Checked). whereFine z new before) same ∙ sym f, same)
+
+-- so two reads of the same tables give one row and one answer
 pub read-one : {p : List ℕ} {table : ℕ} {d : Doc} {before a b : List ℕ} {x y : Checked} → Read p table d before a x → Read p table d before b y → (a ≡ b) × (x ≡ y)
-read-one {p} {d = d} {before} {x = x} {y} r s =
-    let same : x ≡ y = r .answered ∙ sym (s .answered) in
-    (r .row ∙ ap (λ (z : Checked). whereFine z (readRow p d before) before) same ∙ sym (s .row), same)
+read-one {p} {d = d} {before} r s = settled (readRow p d before) before (r .answered) (s .answered) (r .row) (s .row)
+
+-- and two readings at the same wanted steps
+pub read-at-one : {p : List ℕ} {table : ℕ} {d : Doc} {wanted before a b : List ℕ} {x y : Checked} → ReadAt p table d wanted before a x → ReadAt p table d wanted before b y → (a ≡ b) × (x ≡ y)
+read-at-one {p} {d = d} {wanted} {before} r s = settled (wantedRow p wanted d before) before (r .answered) (s .answered) (r .row) (s .row)
 
 -- a read that meets no refusal: byte v is 1 exactly if p selects v by embeddings, else 0; later bytes stay
 pub read-selects : {p : List ℕ} {table : ℕ} {d : Doc} {before after : List ℕ} → Read p table d before after Fine → Bits16 (d .rows) → Row (Selects p d) (d .used) before after

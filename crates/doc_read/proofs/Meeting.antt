@@ -1,9 +1,10 @@
 -- What a fine check of a read says, and that its answer and its row are those of the definition.
-use Prim.Native.Nat.{ℕ, _≤_}
+use Prim.Native.Nat.{ℕ, _<_, _≤_}
 use mathlib.Core.Path.{_≡_, refl, sym, _∙_}
 use mathlib.Core.List.{List}
 use lib.ListN.{length}
 use Rattle.tables.specs.Limits.{stepLimit}
+use Rattle.tables.specs.Words.{steps}
 use Rattle.tables.specs.Documents.{Doc}
 use Rattle.tables.specs.Checks.{_then_, documentCheck, patternCheck, outputCheck}
 use Rattle.tables.specs.declared.refusal.Refusal.{Refusal}
@@ -11,10 +12,11 @@ use Rattle.tables.specs.declared.refusal.Checked.{Checked}
 use Rattle.tables.specs.declared.refusal.Checked.the-variants.{Fine, Refused}
 use Rattle.tables.proofs.Accepted.{then-first, then-second, output-room}
 use Rattle.tables.proofs.Soundness.{accepted-pattern, accepted-steps, node-falls, document-nodes, used-facts}
-use Rattle.selection.specs.Operations.{readRow}
-use Rattle.doc_read.specs.Standing.{Readable}
 use Rattle.check_read.specs.Readable.{readCheck}
 use Rattle.doc_read.specs.Reading.{Read}
+use Rattle.doc_read.specs.Wanted.{wantedRow, ReadAt}
+use Rattle.doc_read.specs.Standing.{LastWanted, Readable}
+use Rattle.doc_read.proofs.Finding.{last-row}
 
 module _ (p : List ℕ) (table : ℕ) (d : Doc) (bytes : ℕ) (e : readCheck p table d bytes ≡ Fine) where
   pub fine-document : documentCheck d ≡ Fine
@@ -48,8 +50,27 @@ module _ (p : List ℕ) (table : ℕ) (d : Doc) (before : List ℕ) {got : Check
         parents = node-falls (d .rows) 5 (d .used) (document-nodes d (fine-document p table d (length before) fine));
       }
 
-  pub read-fine : got ≡ Fine → {after : List ℕ} → after ≡ readRow p d before → Read p table d before after Fine
-  read-fine told q = record { answered = sym told ∙ e; row = q }
+  pub read-fine : got ≡ Fine → (wanted : List ℕ) {after : List ℕ} → after ≡ wantedRow p wanted d before → ReadAt p table d wanted before after Fine
+  read-fine told wanted q = record { answered = sym told ∙ e; row = q }
 
-  pub read-refused : {r : Refusal} → got ≡ Refused r → Read p table d before before (Refused r)
-  read-refused told = record { answered = sym told ∙ e; row = refl }
+  pub read-refused : {r : Refusal} → got ≡ Refused r → (wanted : List ℕ) → ReadAt p table d wanted before before (Refused r)
+  read-refused told wanted = record { answered = sym told ∙ e; row = refl }
+
+-- what a fine check says of the pattern's steps
+module _ (p : List ℕ) (table : ℕ) (d : Doc) (bytes : ℕ) (e : readCheck p table d bytes ≡ Fine) where
+  pub fine-some : 0 < steps p
+  fine-some = accepted-pattern p stepLimit table (fine-pattern p table d bytes e) .some
+
+  pub fine-few : steps p ≤ stepLimit
+  fine-few = accepted-steps p stepLimit table (fine-pattern p table d bytes e)
+
+-- a reading at the last step alone is a read
+pub last-read : {p : List ℕ} {table : ℕ} {d : Doc} {wanted before after : List ℕ} (answer : Checked) → LastWanted p wanted → ReadAt p table d wanted before after answer → Read p table d before after answer
+last-read {p} {table} {d} {before = before} Fine asks r =
+    record {
+      answered = r .answered;
+      row =
+          r .row
+          ∙ last-row p (fine-some p table d (length before) (sym (r .answered))) (fine-few p table d (length before) (sym (r .answered))) asks d before;
+    }
+last-read (Refused x) asks r = record { answered = r .answered; row = r .row }

@@ -1,3 +1,5 @@
--- What a reader must believe of reading a document is Reading; Standing is what its inside holds, and need not be believed.
+-- What a reader must believe of reading a document is Reading; Wanted is the reading that other parts of the house ask for, and Standing what the
+-- inside holds: neither need be believed.
 pub mod Reading
+pub mod Wanted
 pub mod Standing

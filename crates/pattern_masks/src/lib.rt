@@ -18,7 +18,7 @@ ghost use Rattle.pattern_masks.specs.Masks.{byteOf, wild, hasByte, share
 pub const SLOTS: usize = 256;
 
 // The steps of the word from `from` on that are there, of a pattern of n steps.
-fn held(n: usize, from: usize) -> usize
+pub fn held(n: usize, from: usize) -> usize
     ensures { λ r. ⌜ r ≡ min wordSteps (n - from) ⌝ }
 {
     if n <= from {

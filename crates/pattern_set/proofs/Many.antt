@@ -24,7 +24,7 @@ module _ (take stay above : ℕ → Bool) (from : ℕ) {g s a : ℕ → Bool} (t
       record { at = λ i h. first-bit w i h ∙ rw (takes i h, stays i h, stood i h, moved-on c first e i h) }
 
 -- what moves into the word behind is the last bit of this one
-word-carry : {above : ℕ → Bool} {from a : ℕ} → Word above from a → (c : Bool) → bit a 63 ≡ moved c above (from + wordSteps)
+pub word-carry : {above : ℕ → Bool} {from a : ℕ} → Word above from a → (c : Bool) → bit a 63 ≡ moved c above (from + wordSteps)
 unfolding moved
 word-carry {above} {from} stood c = stood .at 63 (omega arith) ∙ ap (moved c above) (sym (add-suc from 63))
 

@@ -1,17 +1,13 @@
 -- The limits of documents 01 and 02, each named once.
-use Prim.Native.Nat.{ℕ, _+_, _*_}
+use Prim.Native.Nat.{ℕ}
 
 -- steps of a pattern
 abbrev pub stepLimit : ℕ
-stepLimit = 64
-
--- where column j of row i stands, in a table whose rows have a column for each step
-abbrev pub place : ℕ → ℕ → ℕ
-place i j = stepLimit * i + j
+stepLimit = 255
 
 -- nodes of an inserted tree, of a tree that is written as tags, and of a proposed tree
 abbrev pub treeLimit : ℕ
-treeLimit = 256
+treeLimit = 1024
 
 -- used nodes of a document
 abbrev pub usedLimit : ℕ
@@ -37,7 +33,7 @@ batchLimit = 16384
 
 -- digits of a line
 abbrev pub digitLimit : ℕ
-digitLimit = 2572
+digitLimit = 10244
 
 -- names of a list
 abbrev pub nameLimit : ℕ

@@ -1,10 +1,10 @@
 // The limits of documents 01 and 02, each named once.
 
 // Steps of a pattern.
-pub const STEP_LIMIT: usize = 64;
+pub const STEP_LIMIT: usize = 255;
 
 // Nodes of an inserted tree, of a tree that is written as tags, and of a proposed tree.
-pub const TREE_LIMIT: usize = 256;
+pub const TREE_LIMIT: usize = 1024;
 
 // Used nodes of a document.
 pub const USED_LIMIT: usize = 4096;
@@ -20,7 +20,7 @@ pub const FRAME_LIMIT: usize = 128;
 pub const BATCH_LIMIT: usize = 16384;
 
 // Digits of a line.
-pub const DIGIT_LIMIT: usize = 2572;
+pub const DIGIT_LIMIT: usize = 10244;
 
 // Names of a list.
 pub const NAME_LIMIT: usize = 256;

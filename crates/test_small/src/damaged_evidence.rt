@@ -14,9 +14,9 @@ use sloefertand::evidence::sloefertand_insert_evidence;
 use tables::words::word;
 
 // Words of the longest pattern, and of the longest tree.
-const STEP_WORDS: usize = 131;
+const STEP_WORDS: usize = 513;
 
-const NODE_WORDS: usize = 515;
+const NODE_WORDS: usize = 2051;
 
 // How many damages a pattern has, and a tree; the first is none.
 const PATTERNS: usize = 12;
@@ -24,14 +24,14 @@ const PATTERNS: usize = 12;
 const TREES: usize = 13;
 
 // A pattern of two steps by its damage: its words, and both axes.
-const PATTERN_WORDS: [u16; PATTERNS] = [4, 0, 3, 2, 128, 130, 131, 4, 4, 4, 4, 130];
+const PATTERN_WORDS: [u16; PATTERNS] = [4, 0, 3, 2, 510, 512, 513, 4, 4, 4, 4, 512];
 
 const FIRST_AXES: [u16; PATTERNS] = [0, 0, 0, 0, 0, 0, 0, 1, 0, 0, 2, 1];
 
 const SECOND_AXES: [u16; PATTERNS] = [2, 2, 2, 2, 2, 2, 2, 2, 0, 3, 3, 2];
 
 // A tree of three nodes by its damage: its words, and the parents and labels of its root and its last node.
-const TREE_WORDS: [u16; TREES] = [6, 0, 5, 512, 514, 515, 6, 6, 6, 6, 6, 6, 514];
+const TREE_WORDS: [u16; TREES] = [6, 0, 5, 2048, 2050, 2051, 6, 6, 6, 6, 6, 6, 2050];
 
 const ROOT_PARENTS: [u16; TREES] = [0, 0, 0, 0, 0, 0, 1, 0, 0, 0, 0, 0, 0];
 

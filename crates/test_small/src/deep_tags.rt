@@ -256,7 +256,7 @@ fn lines_of(down: usize, again: usize) {
 }
 
 pub(crate) fn lines() {
-    lines_of(300, 0);
+    lines_of(1200, 0);
     lines_of(4096, 0);
     lines_of(4097, 0);
     lines_of(9000, 0);

@@ -18,12 +18,15 @@ use tables::words::first_word;
 use tables::words::second_word;
 
 // Words of the longest tree, and of the longest pattern.
-const WORDS: usize = 512;
+const WORDS: usize = 2048;
 
-const STEP_WORDS: usize = 128;
+const STEP_WORDS: usize = 510;
 
 // Cases of one shape and one number of steps.
 const CASES: usize = 16;
+
+// A read along a way of more steps than this has larger trees.
+const LONG: usize = 32;
 
 // The label of the marked node of a tree, and of an inserted one.
 const MARK: usize = 2;
@@ -152,8 +155,11 @@ fn marked_deletes(shape: usize, n: usize) {
     text(b"\n");
 }
 
-// The nodes of the proposed tree.
+// The nodes of the proposed tree; long reads have larger ones.
 fn nodes(c: Case) -> usize {
+    if LONG < c.steps {
+        return c.number % CASES * 64 + 64;
+    }
     c.number % CASES * 16 + 16
 }
 
@@ -167,6 +173,9 @@ fn inserted_shape(c: Case) -> usize {
 
 // Its nodes.
 fn inserted_nodes(c: Case) -> usize {
+    if LONG < c.steps {
+        return 1024 - c.number % CASES * 60;
+    }
     256 - c.number % CASES * 15
 }
 
@@ -177,7 +186,7 @@ fn update_steps(c: Case) -> usize {
 
 // The first number drawn for one of three ways.
 fn start(c: Case, way: usize) -> usize {
-    moved(way % 3 * 10000 + c.steps % 64 * 1000 + c.shape % 6 * 100 + c.number % CASES)
+    moved(way % 3 * 10000 + c.steps % 128 * 1000 + c.shape % 6 * 100 + c.number % CASES)
 }
 
 // A node below the root by a number.
@@ -185,7 +194,7 @@ fn lower(s: usize, n: usize) -> usize {
     if n == 0 {
         return 0;
     }
-    first(s, n - 1) % 256 + 1
+    first(s, n - 1) % 1024 + 1
 }
 
 // A pattern of n steps along a way up from a node.
@@ -233,7 +242,7 @@ fn entered(c: Case, x: &[u16], t: &[u16]) -> Answer {
     enter(c, x, &mut r);
     along(update_steps(c), start(c, 1), node, t, &mut p);
     sloefertand_insert_evidence(
-        front(&r, words_of(c.steps % 64 * 2)),
+        front(&r, words_of(c.steps % 128 * 2)),
         front(&p, words_of(update_steps(c))),
         x,
         t,
@@ -293,17 +302,18 @@ fn ways(shape: usize, steps: usize) {
 
 // All lines of a shape.
 fn lines_of(shape: usize) {
-    marked_inserts(shape, 2, 256);
+    marked_inserts(shape, 2, 1024);
     marked_inserts(shape, 16, 256);
     marked_inserts(shape, 17, 256);
-    marked_inserts(shape, 256, 1);
-    marked_inserts(shape, 256, 256);
+    marked_inserts(shape, 1024, 1);
+    marked_inserts(shape, 1024, 64);
     marked_deletes(shape, 2);
     marked_deletes(shape, 17);
-    marked_deletes(shape, 256);
+    marked_deletes(shape, 1024);
     ways(shape, 2);
     ways(shape, 4);
     ways(shape, 32);
+    ways(shape, 127);
 }
 
 pub(crate) fn lines() {

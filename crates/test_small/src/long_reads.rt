@@ -1,4 +1,4 @@
-// Table 7: reads of 1 to 64 steps on documents of 256 nodes, both drawn at random.
+// Table 7: reads of 1 to 255 steps on documents of 1,024 nodes, both drawn at random.
 use crate::digest::bytes;
 use crate::digest::refusal;
 use crate::numbering::front;
@@ -14,10 +14,10 @@ use tables::words::first_word;
 use tables::words::second_word;
 
 // Nodes of a document.
-const NODES: usize = 256;
+const NODES: usize = 1024;
 
 // Words of its table.
-const WORDS: usize = 512;
+const WORDS: usize = 2048;
 
 // Patterns of one length for a document.
 const PATTERNS: usize = 64;
@@ -81,7 +81,7 @@ fn mark(d: usize, v: usize, above: usize, x: usize) -> u8 {
     if d < 4 {
         return 0;
     }
-    if v < 128 {
+    if v < 512 {
         return 0;
     }
     if x % 32 == 0 {
@@ -184,7 +184,7 @@ pub(crate) fn steps(n: usize, strange: usize, way: Way, rows: &[u16], p: &mut [u
 
 // The pattern of read c.
 fn pattern(n: usize, c: usize, rows: &[u16], p: &mut [u16]) {
-    let size = n % 65;
+    let size = n % 256;
     if size == 0 {
         return;
     }
@@ -230,7 +230,7 @@ fn read_of(n: usize, c: usize, t: Sums) -> Sums {
     let mut rows = [0u16; WORDS];
     let mut marks = [0u8; NODES];
     document(c / PATTERNS, &mut rows, &mut marks);
-    let mut p = [0u16; 128];
+    let mut p = [0u16; 510];
     pattern(n, c, &rows, &mut p);
     after_read(front(&p, words_of(n)), &rows, &marks, t)
 }
@@ -270,4 +270,13 @@ pub(crate) fn table() {
     line(62);
     line(63);
     line(64);
+    line(65);
+    line(127);
+    line(128);
+    line(129);
+    line(191);
+    line(192);
+    line(193);
+    line(254);
+    line(255);
 }

@@ -46,9 +46,9 @@ const ROW: usize = 36;
 const ROW_ROOM: usize = 13;
 
 // Bytes of the longest text of a large tree, at length or inside another element, and the words of its whole buffer, one more than any needs.
-const LONG: usize = 4353;
+const LONG: usize = 17409;
 
-const LONG_ROOM: usize = 513;
+const LONG_ROOM: usize = 2049;
 
 // Nodes of a damaged tree.
 const DAMAGED_NODES: usize = 96;
@@ -130,7 +130,7 @@ fn cut_row(n: usize, k: usize, sums: Sums) -> Sums {
 // Tree k of a shape.
 fn large(shape: usize, k: usize, sums: Sums) -> Sums {
     let mut s = [0u8; LONG];
-    let length = large_text(shape, k % 8 * 32 + 32, &mut s);
+    let length = large_text(shape, k % 8 * 128 + 128, &mut s);
     with_rooms(front_bytes(&s, length), LONG_ROOM, sums)
 }
 
@@ -138,7 +138,7 @@ fn large(shape: usize, k: usize, sums: Sums) -> Sums {
 fn at_length(shape: usize, k: usize, sums: Sums) -> Sums {
     let mut s = [0u8; LONG];
     let mut out = [0u8; LONG];
-    let length = large_text(shape, k % 8 * 32 + 32, &mut s);
+    let length = large_text(shape, k % 8 * 128 + 128, &mut s);
     let end = long_text(front_bytes(&s, length), &mut out);
     with_rooms(front_bytes(&out, end), LONG_ROOM, sums)
 }
@@ -146,14 +146,14 @@ fn at_length(shape: usize, k: usize, sums: Sums) -> Sums {
 // One of the three largest trees of a shape inside another element.
 fn inside(shape: usize, k: usize, sums: Sums) -> Sums {
     let mut s = [0u8; LONG];
-    let length = inside_text(shape, k % 3 + 254, &mut s);
+    let length = inside_text(shape, k % 3 + 1022, &mut s);
     with_rooms(front_bytes(&s, length), LONG_ROOM, sums)
 }
 
 // The same without the last byte.
 fn inside_cut(shape: usize, k: usize, sums: Sums) -> Sums {
     let mut s = [0u8; LONG];
-    let length = inside_text(shape, k % 3 + 254, &mut s);
+    let length = inside_text(shape, k % 3 + 1022, &mut s);
     if length == 0 {
         return sums;
     }

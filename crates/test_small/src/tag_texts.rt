@@ -54,7 +54,7 @@ pub(crate) fn tag_row(k: usize, n: usize, out: &mut [u8]) -> usize {
 
 // The tree of a shape with n nodes; its bytes.
 pub(crate) fn large_text(shape: usize, n: usize, out: &mut [u8]) -> usize {
-    let mut t = [0u16; 512];
+    let mut t = [0u16; 2048];
     drawn(shape, n, &mut t);
     sloefertand_write_tree(front(&t, words_of(n)), out).first % 65536
 }

@@ -100,10 +100,10 @@ pub(crate) fn drawn(shape: usize, n: usize, t: &mut [u16]) {
 
 // Damages a tree by a number: one node gets the least parent that is wrong, and one the label 0; each has four places, and a fifth outside the tree.
 pub(crate) fn damage(k: usize, t: &mut [u16]) {
-    let u = k % 5 * 85;
+    let u = k % 5 * 341;
     let kept = second_word(t, u);
     pair(t, u, right_parents(u), kept);
-    let v = k / 5 % 5 * 85;
+    let v = k / 5 % 5 * 341;
     let above = first_word(t, v);
     pair(t, v, above, 0);
 }

@@ -36,7 +36,7 @@ const SHOWN_ROOM: usize = 36;
 const SMALL_ROOM: usize = 48;
 
 // Bytes of the whole buffer for large trees, some more than any needs.
-const LARGE_ROOM: usize = 4352;
+const LARGE_ROOM: usize = 17408;
 
 // Rooms of the tables of small words, from no byte to one more than any needs.
 const ROOMS: usize = 25;
@@ -86,16 +86,16 @@ fn small_words(n: usize, k: usize, s: Sums) -> Sums {
 
 // Tree k of a shape.
 fn large_tree(shape: usize, k: usize, s: Sums) -> Sums {
-    let mut t = [0u16; 512];
-    let n = k % 8 * 32 + 32;
+    let mut t = [0u16; 2048];
+    let n = k % 8 * 128 + 128;
     drawn(shape, n, &mut t);
     with_rooms(front(&t, words_of(n)), LARGE_ROOM, s)
 }
 
-// The first n words of a tree of 257 nodes with damage k.
+// The first n words of a tree of 1,025 nodes with damage k.
 fn damaged_tree(n: usize, k: usize, s: Sums) -> Sums {
-    let mut t = [0u16; 514];
-    drawn(4, 257, &mut t);
+    let mut t = [0u16; 2050];
+    drawn(4, 1025, &mut t);
     damage(k, &mut t);
     with_rooms(front(&t, n), LARGE_ROOM, s)
 }
@@ -184,8 +184,8 @@ pub(crate) fn table() {
     line(b"large ", LARGE, 5, 8);
     line(b"damaged ", DAMAGED, 0, 25);
     line(b"damaged ", DAMAGED, 1, 25);
-    line(b"damaged ", DAMAGED, 511, 25);
-    line(b"damaged ", DAMAGED, 512, 25);
-    line(b"damaged ", DAMAGED, 513, 25);
-    line(b"damaged ", DAMAGED, 514, 25);
+    line(b"damaged ", DAMAGED, 2047, 25);
+    line(b"damaged ", DAMAGED, 2048, 25);
+    line(b"damaged ", DAMAGED, 2049, 25);
+    line(b"damaged ", DAMAGED, 2050, 25);
 }

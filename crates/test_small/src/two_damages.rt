@@ -33,16 +33,16 @@ fn value(k: usize) -> u16 {
         return k as u16;
     }
     if k == 16 {
-        return 64;
+        return 255;
     }
     if k == 17 {
-        return 65;
-    }
-    if k == 18 {
         return 256;
     }
+    if k == 18 {
+        return 1024;
+    }
     if k == 19 {
-        return 257;
+        return 1025;
     }
     65535
 }

@@ -17,7 +17,7 @@ use Rattle.outcomes.specs.declared.texts.Parsed.the-variants as parsed
 unfoldable pub characterCheck : List ℕ → ℕ → ℕ → Checked
 characterCheck s line i = test (leb (digitOf (getD s i 0)) 15) (refuse 13 6 line)
 
--- 13: an empty line, a digit count not divisible by 4, or over 2,572 digits; then each character
+-- 13: an empty line, a digit count not divisible by 4, or over 10,244 digits; then each character
 unfoldable pub lineCheck : List ℕ → ℕ → Checked
 lineCheck s line =
     test (ltb 0 (length s) && (eqb (length s % 4) 0 && leb (length s) digitLimit)) (refuse 13 6 line)

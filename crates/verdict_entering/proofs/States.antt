@@ -1,11 +1,12 @@
--- The bytes of the states: what an accepted read and tree give, and what is written of the climbed rows.
-use Prim.Native.Nat.{ℕ, pred, _+_, _*_, _<_, _≤_}
-use mathlib.Core.Path.{_≡_, _∙_}
+-- The bytes of the states: what an accepted read and tree give, and what is written from the rows.
+use Prim.Native.Nat.{ℕ, suc, _+_, _<_, _≤_}
+use mathlib.Core.Path.{_≡_, refl, sym, _∙_}
 use mathlib.Core.Bool.{Bool, true, false}
-use mathlib.Core.List.{List, [], _++_, append-nil}
-use native.Mathlib.Decide.{decLt}
+use mathlib.Core.List.{List}
+use native.Mathlib.Decide.{ℕ-discrete}
 use native.Mathlib.Omega.{arith}
-use lib.ListN.{length, drop, getD, replicate, length-replicate, getD-replicate, List·getD-eq-default, drop-of-length-le}
+use lib.ListN.{length, getD, set, length-set, replicate, length-replicate, getD-replicate}
+use lib.Seq.{ext-getD, getD-set-same, getD-set-other}
 use borrow.Author.Tests.{lt-ltb, le-ltb}
 use Rattle.tables.specs.Limits.{stepLimit, treeLimit}
 use Rattle.tables.specs.Words.{steps, nodes}
@@ -18,10 +19,10 @@ use Rattle.tables.proofs.Soundness.{accepted-pattern, accepted-steps, accepted-
 use Rattle.tables.proofs.Branches.{fine-on, fine-off}
 use Rattle.selection.specs.Ways.{last}
 use Rattle.selection.specs.Lists.{tab}
-use Rattle.selection.proofs.Lists.{length-tab}
-use Rattle.verdict_entering.specs.Climbing.{Fitting, leaves, Blank, Climbed}
+use Rattle.selection.proofs.Lists.{length-tab, getD-tab}
+use Rattle.verdict_entering.specs.Climbing.{Fitting, leaves, Filled, Clear, Reached, Handed, Written}
 use Rattle.verdict_entering.specs.Entering.{enteringCheck, entered}
-use Rattle.verdict_entering.proofs.Climbing.{root-is}
+use Rattle.verdict_entering.proofs.Climbing.{climb-inside, root-is}
 
 -- an accepted read has steps, and the parents of an accepted tree fall
 pub fitting : (r x : List ℕ) → enteringCheck r x ≡ Fine → Fitting r x
@@ -37,48 +38,94 @@ fitting r x e =
       falls = node-falls x 3 (nodes x) (then-second (sizeCheck (length x) treeLimit 3) (each (nodeCheck x 3) 0 (nodes x)) tree);
     }
 
--- rows of zeros are blank
-pub blank-of : (n : ℕ) → n ≡ treeLimit * stepLimit → Blank (replicate {A = ℕ} n 0)
-blank-of n e = record { room = length-replicate {A = ℕ} n 0 ∙ e; none = λ i. go i (decLt i n) }
-  where
-    go : (i : ℕ) → Dec (i < n) → getD (replicate {A = ℕ} n 0) i 0 ≡ 0
-    go i (yes h) = getD-replicate n i 0 0 h
-    go i (no h) = List·getD-eq-default (replicate {A = ℕ} n 0) 0 (rw (length-replicate {A = ℕ} n 0) (omega arith))
+-- rows of one byte
+pub filled-of : (byte n : ℕ) → n ≡ treeLimit → Filled byte (replicate {A = ℕ} n byte)
+filled-of byte n e = record { room = length-replicate {A = ℕ} n byte ∙ e; each = λ v h. getD-replicate n v byte 0 (rw e h) }
 
--- states before the last, and from it on
-past-last : (n i : ℕ) → n ≤ i + 1 → pred n ≤ i
-past-last n i h = omega arith
+-- zeros, by counting
+pub zeros : (n : ℕ) → replicate {A = ℕ} n 0 ≡ tab (λ i. 0) n
+zeros n =
+    ext-getD 0 (replicate {A = ℕ} n 0) (tab (λ i. 0) n) (length-replicate {A = ℕ} n 0 ∙ sym (length-tab (λ i. 0) n))
+    (λ i h. let less : i < n = rw (length-replicate {A = ℕ} n 0) at h in
+    getD-replicate n i 0 0 less ∙ sym (getD-tab (λ j. 0) n i less))
 
-before-last : (n i : ℕ) → i + 1 < n → i < pred n
-before-last n i h = omega arith
+-- a row of zeros has no node
+pub clear-of : (n : ℕ) (row : List ℕ) → n ≤ treeLimit → Filled 0 row → Clear n row
+clear-of n row h zero = record { room = zero .room; none = λ v l. zero .each v (omega arith) }
 
--- the byte of a state, from what leaves the root
-module _ (r x : List ℕ) (i : ℕ) where
-  pub byte-last : steps r ≤ i + 1 → 0 ≡ entered r x i
+-- the rows are handed over one byte after the other
+module _ (before : List ℕ) where
+  pub handed-none : (above : List ℕ) → Handed before 0 above before
+  handed-none above = record { moved = λ v h. absurd (omega arith); none = λ v h. absurd (omega arith); rest = λ v h. refl }
+
+  module _ {above own : List ℕ} (v : ℕ) (h : Handed before v above own) where
+    pub handed-more : v < length above → v < length own → Handed before (v + 1) (set above v (getD own v 0)) (set own v 0)
+    handed-more there here =
+        record {
+          moved = λ u l. moved u l (ℕ-discrete u v);
+          none = λ u l. none u l (ℕ-discrete u v);
+          rest = λ u l. getD-set-other own v u 0 0 (λ e. omega arith) ∙ h .rest u (omega arith);
+        }
+      where
+        moved : (u : ℕ) → u < v + 1 → Dec (u ≡ v) → getD (set above v (getD own v 0)) u 0 ≡ getD before u 0
+        moved u l (yes e) = rw (e, getD-set-same above v (getD own v 0) 0 there) (h .rest v (omega arith))
+        moved u l (no n) = getD-set-other above v u (getD own v 0) 0 n ∙ h .moved u (omega arith)
+
+        none : (u : ℕ) → u < v + 1 → Dec (u ≡ v) → getD (set own v 0) u 0 ≡ 0
+        none u l (yes e) = rw e (getD-set-same own v 0 0 here)
+        none u l (no n) = getD-set-other own v u 0 0 n ∙ h .none u (omega arith)
+
+    pub handed-all : (n : ℕ) → v ≤ n → n ≤ v → Handed before n above own
+    handed-all n less most =
+        let same : n ≡ v = omega arith in
+        rw same h
+
+-- what was handed over is the row of the same state, and what is left is clear
+module _ (r x : List ℕ) (fit : Fitting r x) {before above own : List ℕ} (h : Handed before (nodes x) above own) where
+  pub handed-reached : (k : ℕ) → length above ≡ treeLimit → Reached r x k before → Reached r x k above
+  handed-reached k room row =
+      record {
+        room = room;
+        sound = λ u l q. row .sound u l (rw (h .moved u l) at q);
+        full = λ u c. rw (h .moved u (climb-inside r x fit c)) (row .full u c);
+      }
+
+  pub handed-clear : length own ≡ treeLimit → Clear (nodes x) own
+  handed-clear room = record { room = room; none = h .none }
+
+module _ (r x : List ℕ) where
+  -- the byte of a state, from what leaves the root
+  module _ (fit : Fitting r x) (k : ℕ) (before : k < last r) (above own : List ℕ) (next : Reached r x (suc k) above) (here : Reached r x k own) {b : Bool} (e : b ≡ leaves r x k above own 0) where
+    pub byte-on : b ≡ true → 1 ≡ entered r x k
+    unfolding entered
+    byte-on t = rw (lt-ltb k (last r) before, ← root-is r x fit k above own next here e, t)
+
+    pub byte-off : b ≡ false → 0 ≡ entered r x k
+    unfolding entered
+    byte-off t = rw (lt-ltb k (last r) before, ← root-is r x fit k above own next here e, t)
+
+  -- from the last state on there is nothing to be written
+  pub written-none : (states : List ℕ) → states ≡ tab (λ i. 0) stepLimit → Written r x (last r) states
   unfolding entered
-  byte-last h = rw (le-ltb i (last r) (past-last (steps r) i h))
+  written-none states e =
+      record {
+        room = rw e (length-tab (λ i. 0) stepLimit);
+        bytes = λ i h l. rw (e, le-ltb i (last r) h) (getD-tab (λ j. 0) stepLimit i l);
+      }
 
-  module _ (rows : List ℕ) (fit : Fitting r x) (climbed : Climbed r x 1 0 rows) (h : i + 1 < steps r) {b : Bool} (e : b ≡ leaves r x rows 0 i) where
-    before : i < last r
-    before = before-last (steps r) i h
+  -- a state more, from the last down
+  pub written-more : {states : List ℕ} {next b : ℕ} (k : ℕ) → k + 1 ≡ next → Written r x next states → k < length states → b ≡ entered r x k → Written r x k (set states k b)
+  written-more {states} {next} {b} k same w inside e = record { room = simp length-set (w .room); bytes = λ i h l. go i h l (ℕ-discrete i k) }
+    where
+      go : (i : ℕ) → k ≤ i → i < stepLimit → Dec (i ≡ k) → getD (set states k b) i 0 ≡ entered r x i
+      go i h l (yes d) = rw (d, getD-set-same states k b 0 inside) e
+      go i h l (no n) = getD-set-other states k i b 0 n ∙ w .bytes i (omega arith) l
 
-    pub byte-on : b ≡ true → 1 ≡ entered r x i
-    unfolding entered
-    byte-on t = rw (lt-ltb i (last r) before, ← root-is r x fit rows climbed i before e, t)
-
-    pub byte-off : b ≡ false → 0 ≡ entered r x i
-    unfolding entered
-    byte-off t = rw (lt-ltb i (last r) before, ← root-is r x fit rows climbed i before e, t)
-
--- there are as many bytes as states, and no others
-pub states-long : {s : List ℕ} → s ≡ tab (λ i. 0) stepLimit → stepLimit ≤ length s
-states-long e = rw (e, length-tab (λ i. 0) stepLimit) (omega arith)
-
-pub states-all : (f : ℕ → ℕ) (old : List ℕ) {s : List ℕ} → old ≡ tab (λ i. 0) stepLimit → s ≡ tab f stepLimit ++ drop stepLimit old → s ≡ tab f stepLimit
-states-all f old o e =
-    let long : length old ≤ stepLimit = rw (o, length-tab (λ i. 0) stepLimit) (omega arith) in
-    let none : drop stepLimit old ≡ [] = drop-of-length-le old long in
-    e ∙ rw none (append-nil (tab f stepLimit))
+  pub written-all : {states : List ℕ} → Written r x 0 states → states ≡ tab (entered r x) stepLimit
+  written-all {states} w =
+      ext-getD 0 states (tab (entered r x) stepLimit) (w .room ∙ sym (length-tab (entered r x) stepLimit))
+      (λ i h. let less : i < stepLimit = rw (w .room) at h in
+      w .bytes i (omega arith) less ∙ sym (getD-tab (entered r x) stepLimit i less))
 
 module _ {got check : Checked} (e : got ≡ check) (r x : List ℕ) {s : List ℕ} where
   pub states-on : got ≡ Fine → s ≡ tab (entered r x) stepLimit → s ≡ tab (whereFine check (entered r x) (λ _. 0)) stepLimit

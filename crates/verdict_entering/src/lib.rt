@@ -1,79 +1,49 @@
 // From which states a read enters an inserted tree.
 mod rows;
 
-use crate::rows::climb;
-use crate::rows::leaving;
+use crate::rows::write_states;
 use check_pattern::pattern;
 use check_tree::tree;
 use tables::limits::STEP_LIMIT;
 use tables::limits::TREE_LIMIT;
 use tables::refusal::Checked;
-ghost use Prim.Native.Nat.{_<_, _≤_};
 ghost use mathlib.Core.Path.{_≡_};
-ghost use mathlib.Core.List.{_++_};
-ghost use lib.ListN.{length, drop};
 ghost use Rattle.tables.specs.Limits.{stepLimit};
 ghost use Rattle.tables.specs.Checks.{whereFine};
 ghost use Rattle.selection.specs.Lists.{tab};
-ghost use Rattle.verdict_entering.specs.Climbing.{Fitting, Blank, Climbed};
+ghost use Rattle.verdict_entering.specs.Climbing.{Fitting, Filled};
 ghost use Rattle.verdict_entering.specs.Entering.{enteringCheck, entered};
 
-// Pairs of a node of an inserted tree and a state.
-const BYTES: usize = TREE_LIMIT * STEP_LIMIT;
-
-// A byte for every node and every state.
-fn blank_rows() -> [u8; BYTES]
-    ensures { λ t. ⌜ Blank t ⌝ }
+// A byte for every node: 1.
+fn every_node() -> [u8; TREE_LIMIT]
+    ensures { λ row. ⌜ Filled 1 row ⌝ }
 {
-    [0; BYTES]
+    [1; TREE_LIMIT]
 }
 
-// A byte for every state.
-fn blank_states() -> [u8; STEP_LIMIT]
+// A byte for every node: 0.
+fn no_node() -> [u8; TREE_LIMIT]
+    ensures { λ row. ⌜ Filled 0 row ⌝ }
+{
+    [0; TREE_LIMIT]
+}
+
+// A byte for every state: 0.
+fn no_state() -> [u8; STEP_LIMIT]
     ensures { λ s. ⌜ s ≡ tab (λ i. 0) stepLimit ⌝ }
 {
     [0; STEP_LIMIT]
 }
 
-// The byte of state i, from the climbed rows: 1 where what leaves the root is in state i.
-fn state_byte(r: &[u16], x: &[u16], i: usize, rows: &[u8]) -> u8
-    requires { ⌜ Fitting (now r) (now x) ⌝ }
-    requires { ⌜ Climbed (now r) (now x) 1 0 (now rows) ⌝ }
-    requires { ⌜ i < stepLimit ⌝ }
-    ensures { λ b. ⌜ b ≡ entered (now (r .entry)) (now (x .entry)) i ⌝ }
-{
-    if r.len() / 2 <= i + 1 {
-        return 0;
-    }
-    if leaving(r, x, 0, i, rows) {
-        return 1;
-    }
-    0
-}
-
-// The bytes of all states, in the first places.
-fn write_states(r: &[u16], x: &[u16], rows: &[u8], states: &mut [u8])
-    requires { ⌜ Fitting (now r) (now x) ⌝ }
-    requires { ⌜ Climbed (now r) (now x) 1 0 (now rows) ⌝ }
-    requires { ⌜ stepLimit ≤ length (now states) ⌝ }
-    ensures { λ _. ⌜ now (states .exit) ≡ tab (entered (now (r .entry)) (now (x .entry))) stepLimit ++ drop stepLimit (now (states .entry)) ⌝ }
-{
-    let mut i = 0;
-    while i < STEP_LIMIT {
-        states[i] = state_byte(r, x, i, rows);
-        i += 1;
-    }
-}
-
-// The same of an accepted read and tree.
+// The bytes of an accepted read and tree. A run may start at every node: that is the row of the last state.
 fn entered_states(r: &[u16], x: &[u16]) -> [u8; STEP_LIMIT]
     requires { ⌜ Fitting (now r) (now x) ⌝ }
     ensures { λ s. ⌜ s ≡ tab (entered (now (r .entry)) (now (x .entry))) stepLimit ⌝ }
 {
-    let mut rows = blank_rows();
-    climb(r, x, &mut rows);
-    let mut states = blank_states();
-    write_states(r, x, &rows, &mut states);
+    let mut above = every_node();
+    let mut own = no_node();
+    let mut states = no_state();
+    write_states(r, x, &mut above, &mut own, &mut states);
     states
 }
 
@@ -94,6 +64,6 @@ pub fn entering_states(r: &[u16], x: &[u16]) -> [u8; STEP_LIMIT]
 {
     match accepted(r, x) {
         Checked::Fine => entered_states(r, x),
-        Checked::Refused(_) => blank_states(),
+        Checked::Refused(_) => no_state(),
     }
 }

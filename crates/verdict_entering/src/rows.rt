@@ -1,23 +1,24 @@
-// The rows of an inserted tree's nodes: the states in which a run leaves each upwards.
+// The rows of an inserted tree, one for each state: the nodes to which a run comes in this state, from below. A state's row needs that of the
+// next state only, so two rows are kept.
 use pattern_step::stays;
-use tables::limits::STEP_LIMIT;
+use tables::words::byte;
 use tables::words::first_word;
 use tables::words::second_word;
-ghost use Prim.Native.Nat.{suc, _+_, _*_, _<_, _≤_};
+ghost use Prim.Native.Nat.{suc, _+_, _<_, _≤_};
 ghost use mathlib.Core.Path.{_≡_};
 ghost use mathlib.Core.Bool.{false, _&&_};
-ghost use lib.ListN.{length, set};
-ghost use Rattle.tables.specs.Limits.{wordLimit, place};
+ghost use lib.ListN.{length};
+ghost use Rattle.tables.specs.Limits.{wordLimit};
 ghost use Rattle.tables.specs.Words.{nodes, tag};
 ghost use Rattle.selection.specs.Ways.{takes, stays, last};
-ghost use Rattle.verdict_entering.specs.Climbing.{has, leaves, Fitting, Blank, Started, Climbed};
+ghost use Rattle.verdict_entering.specs.Entering.{entered};
+ghost use Rattle.verdict_entering.specs.Climbing.{has, leaves, Fitting, Clear, Reached, Climbed, Handed, Written};
 
-// Whether state k is in the row of node v.
-fn holds(rows: &[u8], v: usize, k: usize) -> bool
-    requires { ⌜ (v < wordLimit) × (k ≤ wordLimit) × (place v k < length (now rows)) ⌝ }
-    ensures { λ b. ⌜ b ≡ has (now (rows .entry)) v k ⌝ }
+// Whether the row has node v.
+fn holds(row: &[u8], v: usize) -> bool
+    ensures { λ b. ⌜ b ≡ has (now (row .entry)) v ⌝ }
 {
-    rows[STEP_LIMIT * v + k] == 1
+    byte(row, v) == 1
 }
 
 // Whether step i takes this label.
@@ -32,98 +33,125 @@ fn taking(p: &[u16], i: usize, l: usize) -> bool
 }
 
 // Whether the step after k lands on v and leaves a run in state k above it.
-fn landing_above(r: &[u16], x: &[u16], v: usize, k: usize, rows: &[u8]) -> bool
-    requires { ⌜ (v < wordLimit) × (k < wordLimit) × (place v (suc k) < length (now rows)) ⌝ }
-    ensures { λ b. ⌜ b ≡ (has (now (rows .entry)) v (suc k) && takes (now (r .entry)) (suc k) (tag (now (x .entry)) v)) ⌝ }
+fn landing_above(r: &[u16], x: &[u16], k: usize, above: &[u8], v: usize) -> bool
+    requires { ⌜ k < wordLimit ⌝ }
+    ensures { λ b. ⌜ b ≡ (has (now (above .entry)) v && takes (now (r .entry)) (suc k) (tag (now (x .entry)) v)) ⌝ }
 {
-    if !holds(rows, v, k + 1) {
+    if !holds(above, v) {
         return false;
     }
     taking(r, k + 1, second_word(x, v))
 }
 
 // Whether a run passes over v in state k.
-fn passing_above(r: &[u16], v: usize, k: usize, rows: &[u8]) -> bool
-    requires { ⌜ (v < wordLimit) × (k < wordLimit) × (place v k < length (now rows)) ⌝ }
-    ensures { λ b. ⌜ b ≡ (has (now (rows .entry)) v k && stays (now (r .entry)) false k) ⌝ }
+fn passing_above(r: &[u16], k: usize, own: &[u8], v: usize) -> bool
+    ensures { λ b. ⌜ b ≡ (has (now (own .entry)) v && stays (now (r .entry)) false k) ⌝ }
 {
-    if !holds(rows, v, k) {
+    if !holds(own, v) {
         return false;
     }
     stays(r, false, k)
 }
 
-// Whether, from the row of v, a run is in state k above v's label.
-pub(crate) fn leaving(r: &[u16], x: &[u16], v: usize, k: usize, rows: &[u8]) -> bool
-    requires { ⌜ (v < wordLimit) × (k < wordLimit) × (place v (suc k) < length (now rows)) ⌝ }
-    ensures { λ b. ⌜ b ≡ leaves (now (r .entry)) (now (x .entry)) (now (rows .entry)) v k ⌝ }
+// Whether, from the row of the next state and that of state k, a run is in state k above v's label.
+fn leaving(r: &[u16], x: &[u16], k: usize, above: &[u8], own: &[u8], v: usize) -> bool
+    requires { ⌜ k < wordLimit ⌝ }
+    ensures { λ b. ⌜ b ≡ leaves (now (r .entry)) (now (x .entry)) k (now (above .entry)) (now (own .entry)) v ⌝ }
 {
-    if landing_above(r, x, v, k, rows) {
+    if landing_above(r, x, k, above, v) {
         return true;
     }
-    passing_above(r, v, k, rows)
+    passing_above(r, k, own, v)
 }
 
-// Puts state k into the row of node v.
-fn mark(rows: &mut [u8], v: usize, k: usize)
-    requires { ⌜ (v < wordLimit) × (k < wordLimit) × (place v k < length (now rows)) ⌝ }
-    ensures { λ _. ⌜ now (rows .exit) ≡ set (now (rows .entry)) (place v k) 1 ⌝ }
-{
-    rows[STEP_LIMIT * v + k] = 1;
-}
-
-// A run may start at every node: puts the last state into each row.
-fn start(r: &[u16], x: &[u16], rows: &mut [u8])
+// If a run leaves node v in state k, the row has its parent.
+fn climb_node(r: &[u16], x: &[u16], k: usize, above: &[u8], own: &mut [u8], v: usize)
     requires { ⌜ Fitting (now r) (now x) ⌝ }
-    requires { ⌜ Blank (now rows) ⌝ }
-    ensures { λ _. ⌜ Started (now (r .entry)) (nodes (now (x .entry))) (now (rows .exit)) ⌝ }
+    requires { ⌜ k < last (now r) ⌝ }
+    requires { ⌜ Reached (now r) (now x) (suc k) (now above) ⌝ }
+    requires { ⌜ Climbed (now r) (now x) k (now above) (v + 1) (now own) ⌝ }
+    requires { ⌜ (0 < v) × (v < nodes (now x)) ⌝ }
+    ensures { λ _. ⌜ Climbed (now (r .entry)) (now (x .entry)) k (now (above .entry)) v (now (own .exit)) ⌝ }
 {
-    let n = x.len() / 2;
-    let end = r.len() / 2 - 1;
+    let u = first_word(x, v);
+    if leaving(r, x, k, above, own, v) {
+        own[u] = 1;
+    }
+}
+
+// The row of state k, from that of the next: every node but the root, from the last down.
+fn climb(r: &[u16], x: &[u16], k: usize, above: &[u8], own: &mut [u8])
+    requires { ⌜ Fitting (now r) (now x) ⌝ }
+    requires { ⌜ k < last (now r) ⌝ }
+    requires { ⌜ Reached (now r) (now x) (suc k) (now above) ⌝ }
+    requires { ⌜ Clear (nodes (now x)) (now own) ⌝ }
+    ensures { λ _. ⌜ Reached (now (r .entry)) (now (x .entry)) k (now (own .exit)) ⌝ }
+{
+    let mut v = x.len() / 2;
+    while 1 < v {
+        v -= 1;
+        climb_node(r, x, k, above, own, v);
+    }
+}
+
+// The byte of state k: 1 where what leaves the root is in state k.
+fn root_byte(r: &[u16], x: &[u16], k: usize, above: &[u8], own: &[u8]) -> u8
+    requires { ⌜ Fitting (now r) (now x) ⌝ }
+    requires { ⌜ k < last (now r) ⌝ }
+    requires { ⌜ Reached (now r) (now x) (suc k) (now above) ⌝ }
+    requires { ⌜ Reached (now r) (now x) k (now own) ⌝ }
+    ensures { λ b. ⌜ b ≡ entered (now (r .entry)) (now (x .entry)) k ⌝ }
+{
+    if leaving(r, x, k, above, own, 0) {
+        return 1;
+    }
+    0
+}
+
+// The own row becomes the one of the next state, and is clear itself: the bytes of n nodes.
+fn hand_over(n: usize, above: &mut [u8], own: &mut [u8])
+    requires { ⌜ (n ≤ length (now above)) × (n ≤ length (now own)) ⌝ }
+    ensures { λ _. ⌜ Handed (now (own .entry)) n (now (above .exit)) (now (own .exit)) ⌝ }
+{
     let mut v = 0;
     while v < n {
-        mark(rows, v, end);
+        above[v] = own[v];
+        own[v] = 0;
         v += 1;
     }
 }
 
-// If a run leaves node v in state k, its parent holds k.
-fn climb_state(r: &[u16], x: &[u16], v: usize, k: usize, rows: &mut [u8])
+// The byte of state k, from the row of the next state; that row becomes the one of state k.
+fn state_byte(r: &[u16], x: &[u16], k: usize, above: &mut [u8], own: &mut [u8]) -> u8
     requires { ⌜ Fitting (now r) (now x) ⌝ }
-    requires { ⌜ Climbed (now r) (now x) v (k + 1) (now rows) ⌝ }
-    requires { ⌜ (0 < v) × (v < nodes (now x)) × (k < last (now r)) ⌝ }
-    ensures { λ _. ⌜ Climbed (now (r .entry)) (now (x .entry)) v k (now (rows .exit)) ⌝ }
+    requires { ⌜ k < last (now r) ⌝ }
+    requires { ⌜ Reached (now r) (now x) (suc k) (now above) ⌝ }
+    requires { ⌜ Clear (nodes (now x)) (now own) ⌝ }
+    ensures { λ b. ⌜ (b ≡ entered (now (r .entry)) (now (x .entry)) k) × Reached (now (r .entry)) (now (x .entry)) k (now (above .exit)) × Clear (nodes (now (x .entry))) (now (own .exit)) ⌝ }
 {
-    let u = first_word(x, v);
-    if leaving(r, x, v, k, rows) {
-        mark(rows, u, k);
-    }
+    climb(r, x, k, above, own);
+    let b = root_byte(r, x, k, above, own);
+    hand_over(x.len() / 2, above, own);
+    b
 }
 
-// Every state in which a run leaves node v, from the last down.
-fn climb_node(r: &[u16], x: &[u16], v: usize, rows: &mut [u8])
+// The bytes of all states before the last, from the last down.
+pub(crate) fn write_states(
+    r: &[u16],
+    x: &[u16],
+    above: &mut [u8],
+    own: &mut [u8],
+    states: &mut [u8],
+)
     requires { ⌜ Fitting (now r) (now x) ⌝ }
-    requires { ⌜ Climbed (now r) (now x) (v + 1) 0 (now rows) ⌝ }
-    requires { ⌜ (0 < v) × (v < nodes (now x)) ⌝ }
-    ensures { λ _. ⌜ Climbed (now (r .entry)) (now (x .entry)) v 0 (now (rows .exit)) ⌝ }
+    requires { ⌜ Reached (now r) (now x) (last (now r)) (now above) ⌝ }
+    requires { ⌜ Clear (nodes (now x)) (now own) ⌝ }
+    requires { ⌜ Written (now r) (now x) (last (now r)) (now states) ⌝ }
+    ensures { λ _. ⌜ Written (now (r .entry)) (now (x .entry)) 0 (now (states .exit)) ⌝ }
 {
     let mut k = r.len() / 2 - 1;
     while 0 < k {
         k -= 1;
-        climb_state(r, x, v, k, rows);
-    }
-}
-
-// Every node but the root, from the last down.
-pub(crate) fn climb(r: &[u16], x: &[u16], rows: &mut [u8])
-    requires { ⌜ Fitting (now r) (now x) ⌝ }
-    requires { ⌜ Blank (now rows) ⌝ }
-    ensures { λ _. ⌜ Climbed (now (r .entry)) (now (x .entry)) 1 0 (now (rows .exit)) ⌝ }
-{
-    start(r, x, rows);
-    let mut v = x.len() / 2;
-    while 1 < v {
-        v -= 1;
-        climb_node(r, x, v, rows);
+        states[k] = state_byte(r, x, k, above, own);
     }
 }

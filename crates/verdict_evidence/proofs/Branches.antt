@@ -1,16 +1,14 @@
 -- The branches of the code, held against those of the definitions.
-use Prim.Native.Nat.{ℕ, zero, suc, _<_, _≤_}
-use mathlib.Core.Path.{_≡_, refl, sym, _∙_}
-use mathlib.Core.Bool.{Bool, false, _&&_, and-true, and-false}
+use Prim.Native.Nat.{ℕ, _<_, _≤_}
+use mathlib.Core.Path.{_≡_}
+use mathlib.Core.Bool.{Bool, false, _&&_}
 use mathlib.Core.List.{List}
 use lib.Dec.{eqb}
 use lib.ListN.{getD}
 use borrow.Author.Tests.{eq-eqb, ne-eqb, lt-ltb, le-ltb}
-use Rattle.tables.specs.Words.{parent}
 use Rattle.doc_updates.specs.Asking.{chosen}
 use Rattle.outcomes.specs.declared.verdicts.Evidence.the-variants.{Same, Shown}
 use Rattle.verdict_evidence.specs.Finding.{within, foundOf}
-use Rattle.verdict_evidence.specs.Passing.{setOver}
 
 -- a node as an answer
 module _ (v : ℕ) where
@@ -45,25 +43,3 @@ module _ (row : List ℕ) (v : ℕ) {b : ℕ} (e : b ≡ getD row v 0) where
   pub chosen-byte : eqb b 1 ≡ chosen row v
   unfolding chosen
   chosen-byte = rw e
-
--- the first step lands on a root that nothing stands above
-module _ (top : Bool) (v : ℕ) where
-  pub lands-root : v ≡ 0 → top ≡ (top && eqb v 0)
-  lands-root e = rw e (sym (and-true top))
-
-  pub lands-none : (v ≡ 0 → ⊥) → false ≡ (top && eqb v 0)
-  lands-none n = rw (ne-eqb v 0 n) (sym (and-false top))
-
--- the set above the root, and above any other node
-over-parent-of : (t sets : List ℕ) (above v : ℕ) → (v ≡ 0 → ⊥) → setOver t sets above v ≡ getD sets (parent t v) 0
-unfolding setOver
-over-parent-of t sets above zero n = absurd (n refl)
-over-parent-of t sets above (suc v) n = refl
-
-module _ (t sets : List ℕ) (above v : ℕ) where
-  pub over-root : v ≡ 0 → above ≡ setOver t sets above v
-  unfolding setOver
-  over-root e = rw e
-
-  pub over-node : (v ≡ 0 → ⊥) → {u s : ℕ} → u ≡ parent t v → s ≡ getD sets u 0 → s ≡ setOver t sets above v
-  over-node n e q = q ∙ rw (e, over-parent-of t sets above v n)

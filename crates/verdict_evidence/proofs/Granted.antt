@@ -1,45 +1,30 @@
 -- What the search for a node is given once the checks are fine.
-use Prim.Native.Nat.{ℕ, _<_}
+use Prim.Native.Nat.{ℕ, _<_, _≤_}
 use mathlib.Core.Path.{_≡_, _∙_}
-use mathlib.Core.Bool.{true, false, _&&_}
+use mathlib.Core.Bool.{_&&_}
 use mathlib.Core.List.{List}
-use lib.ListN.{length, replicate}
 use Rattle.tables.specs.Limits.{stepLimit, treeLimit}
 use Rattle.tables.specs.Words.{steps, nodes, Bits16}
 use Rattle.tables.specs.Documents.{bare}
-use Rattle.tables.specs.Checks.{each, sizeCheck, patternCheck, nodeCheck, treeCheck}
+use Rattle.tables.specs.Checks.{patternCheck, treeCheck}
 use Rattle.tables.specs.declared.refusal.Checked.the-variants.{Fine}
-use Rattle.tables.proofs.Accepted.{then-second, then-both}
-use Rattle.tables.proofs.Soundness.{accepted-nodes, node-falls}
-use Rattle.selection.specs.Ways.{up, stays, selected}
+use Rattle.tables.proofs.Accepted.{then-both}
+use Rattle.tables.proofs.Soundness.{accepted-nodes}
+use Rattle.selection.specs.Ways.{up, selected}
 use Rattle.selection.specs.Operations.{hits}
 use Rattle.conflict.specs.Conflict.{delete, insert}
 use Rattle.outcomes.specs.declared.verdicts.Evidence.{Evidence}
 use Rattle.check_verdict.proofs.Accepting.{read-fine, update-fine, patterns-bounded}
 use Rattle.check_evidence.specs.Order.{deleteEvidenceCheck, insertEvidenceCheck}
 use Rattle.check_evidence.proofs.Accepting.{delete-patterns, delete-tree, delete-two, insert-patterns, insert-inserted, insert-tree}
-use Rattle.pattern_set.specs.Sets.{Word}
-use Rattle.pattern_masks.specs.Masks.{slots, wild, Noted}
-use Rattle.pattern_masks.proofs.Masks.{table-new}
 use Rattle.verdict_entering.specs.Entering.{enteringCheck}
 use Rattle.doc_updates.specs.Asking.{chosen, Chosen}
 use Rattle.verdict_evidence.specs.Promise.{Checks}
 use Rattle.verdict_evidence.specs.Finding.{firstOf, losing, within, lostNode, gainedNode, foundOf}
-use Rattle.verdict_evidence.specs.Rows.{Cut}
-use Rattle.verdict_evidence.specs.Passing.{Falling, Masked}
-use Rattle.verdict_evidence.specs.Opening.{entrance, Ready}
+use Rattle.verdict_evidence.specs.Rows.{Cut, Hung}
 use Rattle.verdict_evidence.proofs.Promise.{delete-shown, insert-shown}
 use Rattle.verdict_evidence.proofs.Firsts.{first-ext}
 use Rattle.verdict_evidence.proofs.Opening.{byte-test}
-
--- an accepted tree falls
-falling : (t : List ℕ) (table : ℕ) → treeCheck t treeLimit table ≡ Fine → Falling t
-unfolding treeCheck
-falling t table fine =
-    record {
-      most = accepted-nodes t treeLimit table fine;
-      falls = node-falls t table (nodes t) (then-second (sizeCheck (length t) treeLimit table) (each (nodeCheck t table) 0 (nodes t)) fine);
-    }
 
 module _ (r p t : List ℕ) (fine : deleteEvidenceCheck r p t ≡ Fine) where
   pub lost-read : (patternCheck r stepLimit 1 ≡ Fine) × (treeCheck t treeLimit 5 ≡ Fine)
@@ -67,17 +52,19 @@ module _ (r p x t : List ℕ) (fine : insertEvidenceCheck r p x t ≡ Fine) wher
   unfolding enteringCheck
   gained-entering = then-both (patternCheck r stepLimit 1) (treeCheck x treeLimit 3) (read-fine r p (insert-patterns r p x t fine)) (insert-inserted r p x t fine)
 
-  pub gained-ready : {row : List ℕ} {entering : ℕ} → Chosen p (bare t) row → Word (entrance r x) 0 entering → Ready r p x t row entering
-  gained-ready points enters =
+  pub gained-read : (patternCheck r stepLimit 1 ≡ Fine) × (treeCheck t treeLimit 5 ≡ Fine)
+  gained-read = (read-fine r p (insert-patterns r p x t fine), insert-tree r p x t fine)
+
+  pub gained-steps : (0 < steps r) × (steps r ≤ stepLimit)
+  gained-steps =
       let bounded = patterns-bounded r p (insert-patterns r p x t fine) in
-      record {
-        some = bounded .reads-some;
-        few = bounded .reads;
-        inserted = falling x 3 (insert-inserted r p x t fine);
-        proposed = falling t 5 (insert-tree r p x t fine);
-        points = points;
-        enters = enters;
-      }
+      (bounded .reads-some, bounded .reads)
+
+  pub gained-hung : {q : ℕ} → q < nodes t → Hung r x t q
+  gained-hung h = record { reads = gained-read .0; inserted = insert-inserted r p x t fine; proposed = gained-read .1; under = h }
+
+  pub gained-nodes : (nodes x ≤ treeLimit) × (nodes t ≤ treeLimit)
+  gained-nodes = (accepted-nodes x treeLimit 3 (insert-inserted r p x t fine), accepted-nodes t treeLimit 5 (insert-tree r p x t fine))
 
 -- the promise, from the node that is found
 pub lost-promise : (r p t : List ℕ) → deleteEvidenceCheck r p t ≡ Fine → Bits16 t → {v : ℕ} {answer : Evidence}
@@ -87,9 +74,3 @@ lost-promise r p t fine words e f = rw (f, e) (delete-shown r p t fine words)
 pub gained-promise : (r p x t : List ℕ) → insertEvidenceCheck r p x t ≡ Fine → Bits16 x → Bits16 t → {v : ℕ} {answer : Evidence}
     → v ≡ gainedNode r p x t → answer ≡ foundOf v → Checks r (insert p x) t answer
 gained-promise r p x t fine tags words e f = rw (f, e) (insert-shown r p x t fine tags words)
-
--- the masks of the read
-pub read-masks : (r : List ℕ) {staying w : ℕ} {low high : List ℕ} → Word (stays r false) 0 staying → Word (wild r) 0 w
-    → Noted false r 0 (replicate slots w) low → Noted true r 0 (replicate slots w) high → Masked r staying low high
-read-masks r {w = w} stay wilds lows highs =
-    record { stays = stay; lows = table-new false r 0 w wilds lows; highs = table-new true r 0 w wilds highs }

@@ -2,5 +2,3 @@
 pub mod Promise
 pub mod Finding
 pub mod Rows
-pub mod Passing
-pub mod Opening

@@ -1,9 +1,10 @@
 // Another shop's witness: whether a read's set of nodes on a proposed tree differs before and after an update, and at which node first.
+mod copy;
 mod found;
 mod gained;
 mod lost;
-mod pass;
 mod rows;
+mod search;
 
 use crate::found::found;
 use crate::gained::gained;

@@ -1,37 +1,11 @@
 // A delete: the first node that the read selects and the delete removes.
 use crate::rows::removed_row;
 use crate::rows::selected_row;
-use tables::words::byte;
+use crate::search::first_both;
 ghost use mathlib.Core.Path.{_≡_};
-ghost use mathlib.Core.Bool.{_&&_};
 ghost use Rattle.tables.specs.declared.refusal.Checked.the-variants.{Fine};
-ghost use Rattle.doc_updates.specs.Asking.{chosen};
 ghost use Rattle.check_evidence.specs.Order.{deleteEvidenceCheck};
-ghost use Rattle.verdict_evidence.specs.Finding.{firstOf, within, lostNode};
-
-// Whether both rows have 1 at v.
-fn both(row: &[u8], cut: &[u8], v: usize) -> bool
-    ensures { λ b. ⌜ b ≡ (chosen (now (row .entry)) v && chosen (now (cut .entry)) v) ⌝ }
-{
-    if byte(row, v) != 1 {
-        return false;
-    }
-    byte(cut, v) == 1
-}
-
-// The first node below n at which both rows have 1, n for none.
-fn first_both(row: &[u8], cut: &[u8], n: usize) -> usize
-    ensures { λ r. ⌜ r ≡ firstOf (λ v. chosen (now (row .entry)) v && chosen (now (cut .entry)) v) n ⌝ }
-{
-    let mut v = 0;
-    while v < n {
-        if both(row, cut, v) {
-            return v;
-        }
-        v += 1;
-    }
-    v
-}
+ghost use Rattle.verdict_evidence.specs.Finding.{within, lostNode};
 
 // The number itself below n, else 0.
 fn below(n: usize, v: usize) -> usize

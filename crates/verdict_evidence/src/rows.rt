@@ -1,6 +1,7 @@
-// The nodes of a proposed tree that a pattern selects, and those that a delete removes. None was removed before.
+// The nodes of a proposed tree that a pattern selects, those at which steps of it stand, and those that a delete removes. None was removed before.
 use doc_delete::delete;
 use doc_read::read::reading;
+use doc_read::read::reading_at;
 use tables::limits::TREE_LIMIT;
 ghost use Prim.Native.Nat.{_<_};
 ghost use mathlib.Core.Path.{_≡_};
@@ -10,20 +11,13 @@ ghost use Rattle.tables.specs.Documents.{bare};
 ghost use Rattle.tables.specs.Checks.{patternCheck, treeCheck};
 ghost use Rattle.tables.specs.declared.refusal.Checked.the-variants.{Fine};
 ghost use Rattle.doc_updates.specs.Asking.{Chosen};
-ghost use Rattle.verdict_evidence.specs.Rows.{Filled, Cut};
+ghost use Rattle.verdict_evidence.specs.Rows.{Blank, Cut, Standing};
 
 // A byte for each node: 0.
 fn none() -> [u8; TREE_LIMIT]
-    ensures { λ row. ⌜ Filled 0 row ⌝ }
+    ensures { λ row. ⌜ Blank treeLimit row ⌝ }
 {
     [0; TREE_LIMIT]
-}
-
-// A byte for each node: 1.
-pub(crate) fn every() -> [u8; TREE_LIMIT]
-    ensures { λ row. ⌜ Filled 1 row ⌝ }
-{
-    [1; TREE_LIMIT]
 }
 
 // A row with 1 at the nodes that p selects; p is the pattern of that table.
@@ -34,6 +28,17 @@ pub(crate) fn selected_row(p: &[u16], table: usize, t: &[u16]) -> [u8; TREE_LIMI
     let marks = none();
     let mut row = none();
     reading(p, table, t, &marks, t.len() / 2, &mut row);
+    row
+}
+
+// A row with 1 at the nodes at which one of the wanted steps of the read stands.
+pub(crate) fn standing_row(r: &[u16], wanted: &[u8], t: &[u16]) -> [u8; TREE_LIMIT]
+    requires { ⌜ (patternCheck (now r) stepLimit 1 ≡ Fine) × (treeCheck (now t) treeLimit 5 ≡ Fine) ⌝ }
+    ensures { λ row. ⌜ Standing (now (r .entry)) (now (wanted .entry)) (now (t .entry)) row ⌝ }
+{
+    let marks = none();
+    let mut row = none();
+    reading_at(r, 1, wanted, t, &marks, t.len() / 2, &mut row);
     row
 }
 

@@ -1,145 +1,176 @@
--- One cell of the table after the other: which cells are read, what is written, and what the whole holds.
-use Prim.Native.Nat.{ℕ, zero, suc, pred, _+_, _-_, _<_, _≤_}
-use mathlib.Core.Path.{_≡_, refl, _∙_}
+-- One cell after the other: which numbers are read, what is written, and what the row and the moves then hold.
+use Prim.Native.Nat.{ℕ, zero, suc, pred, _+_, _^_, _<_, _≤_}
+use mathlib.Core.Path.{_≡_, refl, sym, _∙_}
 use mathlib.Core.Bool.{Bool, true, false, cond}
 use mathlib.Core.List.{List}
 use native.Mathlib.Decide.{decLt}
-use native.Mathlib.Numerals.{sub-one}
+use native.Mathlib.Nat.{le-refl}
 use native.Mathlib.Omega.{arith}
+use borrow.Author.Tests.{ne-eqb}
 use lib.ListN.{length, getD, set, length-set}
 use lib.Seq.{getD-set-same, getD-set-other}
-use Rattle.tables.specs.Limits.{stepLimit, wordLimit, place}
+use Rattle.tables.specs.Limits.{stepLimit, wordLimit}
 use Rattle.tables.specs.Words.{steps, label}
 use Rattle.selection.specs.Ways.{stays}
-use Rattle.conflict.specs.Meeting.{agree, least, onward, fewest, fewestOf}
+use Rattle.conflict.specs.Meeting.{agree, sooner, least, fewest, fewestOf}
 use Rattle.conflict.proofs.Shortest.{fewestOf-most}
-use Rattle.verdict_meeting.specs.Cells.{bothLand, readLands, updateLands, Held, Next}
+use Rattle.check_verdict.specs.Admitted.{Bounded}
+use Rattle.verdict_meeting.specs.Cells.{together, alone, bothLand, readLands, updateLands, choose, moveOf, cellAt, RowHeld, MovesHeld, Next}
+use Rattle.verdict_meeting.proofs.Places.{cell-start, cell-fits, cell-next, cell-row, cell-row-same, cell-column-same}
 
-module _ (a b : ℕ) {t : Bool} {x y : ℕ} (d : x ≡ a) (e : y ≡ b) (h : t ≡ agree x y) where
-  pub first-lands : t ≡ true → _≡_ {A = ℕ} 1 (cond (agree a b) 1 0)
-  first-lands v = rw (← d, ← e, ← h, v)
+-- only the numbers that there are count
+together-same : (may : Bool) (i j : ℕ) {n m : ℕ} → (0 < i → 0 < j → n ≡ m) → together may i j n ≡ together may i j m
+unfolding together
+together-same may zero zero h = refl
+together-same may zero (suc j) h = refl
+together-same may (suc i) zero h = refl
+together-same may (suc i) (suc j) h = rw (h (omega arith) (omega arith))
 
-  pub first-fails : t ≡ false → _≡_ {A = ℕ} 0 (cond (agree a b) 1 0)
-  first-fails v = rw (← d, ← e, ← h, v)
+alone-same : (may : Bool) (i : ℕ) {n m : ℕ} → (0 < i → n ≡ m) → alone may i n ≡ alone may i m
+unfolding alone
+alone-same may zero h = refl
+alone-same may (suc i) h = rw (h (omega arith))
+
+-- one that is not there is passed over
+none-least : (n : ℕ) → least 0 n ≡ n
+unfolding least sooner
+none-least n = refl
+
+least-none : (n : ℕ) → least n 0 ≡ n
+unfolding least sooner
+least-none zero = refl
+least-none (suc n) = rw (ne-eqb (suc n) 0 (λ e. omega arith))
 
 module _ (r : List ℕ) (below : Bool) (p : List ℕ) (under : Bool) where
   -- a number of labels is a word, as the states are steps
-  pub number-word : (i j : ℕ) → i < stepLimit → j < stepLimit → fewestOf r below p under i j < wordLimit
+  number-word : (i j : ℕ) → i < stepLimit → j < stepLimit → fewestOf r below p under i j < wordLimit
   number-word i j h k = omega (arith, fewestOf-most r below p under i j)
 
-  module _ (i j : ℕ) (table : List ℕ) (next : Next r below p under i j table) where
-    -- the cells that come before that of i and j
-    both-cell : 0 < i → 0 < j → getD table (place (i - 1) (j - 1)) 0 ≡ fewestOf r below p under (pred i) (pred j)
-    both-cell h k = rw (← sub-one i, ← sub-one j) (next .held .cells (i - 1) (j - 1) (omega (arith, next .updates)) (omega arith))
+  -- the number of i and j, from those of the states before
+  fewest-cell : (i j : ℕ)
+      → least (bothLand r below p under i j) (least (readLands r below p under i j) (updateLands r below p under i j)) ≡ fewestOf r below p under i j
+  unfolding bothLand readLands updateLands together alone fewestOf fewest
+  fewest-cell zero zero = rw (none-least 0, least-none (cond (agree (label r 0) (label p 0)) 1 0))
+  fewest-cell zero (suc j) = rw (none-least, none-least)
+  fewest-cell (suc i) zero = rw (none-least, least-none)
+  fewest-cell (suc i) (suc j) = refl
 
-    read-cell : 0 < i → getD table (place (i - 1) j) 0 ≡ fewestOf r below p under (pred i) j
-    read-cell h = rw (← sub-one i) (next .held .cells (i - 1) j (next .updates) (omega arith))
-
-    update-cell : 0 < j → getD table (place i (j - 1)) 0 ≡ fewestOf r below p under i (pred j)
-    update-cell h = rw (← sub-one j) (next .held .cells i (j - 1) (omega (arith, next .updates)) (omega arith))
-
+  module _ (i j corner : ℕ) (row : List ℕ) (next : Next r below p under i j corner row) where
     row-inside : i < stepLimit
-    row-inside = omega (arith, next .reads, next .held .roomy .reads)
+    row-inside = omega (arith, next .reads, next .bounded .reads)
 
     column-inside : j < stepLimit
-    column-inside = omega (arith, next .updates, next .held .roomy .updates)
+    column-inside = omega (arith, next .updates, next .bounded .updates)
 
-    module _ {x : ℕ} where
-      pub both-word : 0 < i → 0 < j → x ≡ getD table (place (i - 1) (j - 1)) 0 → x < wordLimit
-      both-word h k e = rw (e, both-cell h k) (number-word (pred i) (pred j) (omega (arith, row-inside)) (omega (arith, column-inside)))
+    -- the numbers before that of i and j
+    read-number : {x : ℕ} → x ≡ getD row j 0 → 0 < i → x ≡ fewestOf r below p under (pred i) j
+    read-number e h = e ∙ next .held .earlier j (le-refl j) (next .updates) h
 
-      pub read-word : 0 < i → x ≡ getD table (place (i - 1) j) 0 → x < wordLimit
-      read-word h e = rw (e, read-cell h) (number-word (pred i) j (omega (arith, row-inside)) column-inside)
+    update-number : {x k : ℕ} → k ≡ pred j → x ≡ getD row k 0 → 0 < j → x ≡ fewestOf r below p under i (pred j)
+    update-number {x} {k} d e h = e ∙ rw d (next .held .own (pred j) (omega arith))
 
-      pub update-word : 0 < j → x ≡ getD table (place i (j - 1)) 0 → x < wordLimit
-      update-word h e = rw (e, update-cell h) (number-word i (pred j) row-inside (omega (arith, column-inside)))
+    pub both-word : 0 < i → 0 < j → corner < wordLimit
+    both-word h l = rw (next .held .in-hand h l) (number-word (pred i) (pred j) (omega (arith, row-inside)) (omega (arith, column-inside)))
 
-      pub both-lands : {l m n : ℕ} {t : Bool} → 0 < i → 0 < j → l ≡ label r i → m ≡ label p j → t ≡ agree l m
-          → x ≡ getD table (place (i - 1) (j - 1)) 0 → n ≡ onward t x → n ≡ bothLand r below p under i j
+    pub read-word : {x : ℕ} → x ≡ getD row j 0 → 0 < i → x < wordLimit
+    read-word e h = rw (read-number e h) (number-word (pred i) j (omega (arith, row-inside)) column-inside)
+
+    pub update-word : {x k : ℕ} → k ≡ pred j → x ≡ getD row k 0 → 0 < j → x < wordLimit
+    update-word d e h = rw (update-number d e h) (number-word i (pred j) row-inside (omega (arith, column-inside)))
+
+    -- the cell that is chosen from them
+    module _ {both x read k y update : ℕ} (a : both ≡ together (agree (label r i) (label p j)) i j corner)
+        (b : x ≡ getD row j 0) (c : read ≡ alone (stays p under j) i x)
+        (d : k ≡ pred j) (e : y ≡ getD row k 0) (f : update ≡ alone (stays r below i) j y) where
+      both-is : both ≡ bothLand r below p under i j
       unfolding bothLand
-      both-lands h k a b c e d = rw (d, c, a, b, e, both-cell h k)
+      both-is = a ∙ together-same (agree (label r i) (label p j)) i j (next .held .in-hand)
 
-      pub read-lands : {n : ℕ} {t : Bool} → 0 < i → t ≡ stays p under j
-          → x ≡ getD table (place (i - 1) j) 0 → n ≡ onward t x → n ≡ readLands r below p under i j
+      read-is : read ≡ readLands r below p under i j
       unfolding readLands
-      read-lands h c e d = rw (d, c, e, read-cell h)
+      read-is = c ∙ alone-same (stays p under j) i (read-number b)
 
-      pub update-lands : {n : ℕ} {t : Bool} → 0 < j → t ≡ stays r below i
-          → x ≡ getD table (place i (j - 1)) 0 → n ≡ onward t x → n ≡ updateLands r below p under i j
+      update-is : update ≡ updateLands r below p under i j
       unfolding updateLands
-      update-lands h c e d = rw (d, c, e, update-cell h)
+      update-is = f ∙ alone-same (stays r below i) j (update-number d e)
 
-  -- the number of i and j, from those of the states before
-  fewest-update : (i j : ℕ) → i ≡ 0 → (j ≡ 0 → ⊥) → updateLands r below p under i j ≡ fewestOf r below p under i j
-  unfolding updateLands fewestOf fewest
-  fewest-update zero zero e n = absurd (n refl)
-  fewest-update zero (suc j) e n = refl
-  fewest-update (suc i) j e n = absurd (omega arith)
+      pub cell-number : {n : ℕ} → n ≡ least both (least read update) → n ≡ fewestOf r below p under i j
+      cell-number h = rw (h, both-is, read-is, update-is) (fewest-cell i j)
 
-  fewest-read : (i j : ℕ) → (i ≡ 0 → ⊥) → j ≡ 0 → readLands r below p under i j ≡ fewestOf r below p under i j
-  unfolding readLands fewestOf fewest
-  fewest-read zero j n e = absurd (n refl)
-  fewest-read (suc i) zero n e = refl
-  fewest-read (suc i) (suc j) n e = absurd (omega arith)
+      pub cell-move : {m : ℕ} → m ≡ choose both read update → m ≡ moveOf r below p under i j
+      unfolding moveOf
+      cell-move h = rw (h, both-is, read-is, update-is)
 
-  fewest-inner : (i j : ℕ) → (i ≡ 0 → ⊥) → (j ≡ 0 → ⊥)
-      → least (bothLand r below p under i j) (least (readLands r below p under i j) (updateLands r below p under i j)) ≡ fewestOf r below p under i j
-  unfolding bothLand readLands updateLands fewestOf fewest
-  fewest-inner zero j n m = absurd (n refl)
-  fewest-inner (suc i) zero n m = absurd (m refl)
-  fewest-inner (suc i) (suc j) n m = refl
+    -- the row after its number is written
+    pub number-fits : {x : ℕ} → x ≡ fewestOf r below p under i j → x < wordLimit
+    number-fits e = rw e (number-word i j row-inside column-inside)
 
-  module _ (i j : ℕ) {x : ℕ} where
-    pub number-first : i ≡ 0 → j ≡ 0 → x ≡ cond (agree (label r 0) (label p 0)) 1 0 → x ≡ fewestOf r below p under i j
-    unfolding fewestOf fewest
-    number-first e d h = rw (e, d) h
+    pub number-inside : j < length row
+    number-inside = omega (arith, next .updates, next .held .room)
 
-    pub number-update : i ≡ 0 → (j ≡ 0 → ⊥) → x ≡ updateLands r below p under i j → x ≡ fewestOf r below p under i j
-    number-update e n h = h ∙ fewest-update i j e n
-
-    pub number-read : (i ≡ 0 → ⊥) → j ≡ 0 → x ≡ readLands r below p under i j → x ≡ fewestOf r below p under i j
-    number-read n e h = h ∙ fewest-read i j n e
-
-    pub number-inner : {a b c d : ℕ} → (i ≡ 0 → ⊥) → (j ≡ 0 → ⊥) → a ≡ bothLand r below p under i j → b ≡ readLands r below p under i j
-        → c ≡ updateLands r below p under i j → d ≡ least b c → x ≡ least a d → x ≡ fewestOf r below p under i j
-    number-inner n m e f g h k = rw (k, h, e, f, g) (fewest-inner i j n m)
-
-  -- in a row of n
-  pub next-of : {n : ℕ} (i j : ℕ) (table : List ℕ) → Held r below p under i j table → i < steps r → n ≡ steps p → j < n → Next r below p under i j table
-  next-of i j table held h e l = record { held = held; reads = h; updates = omega arith }
-
-  -- the table after a cell is written
-  module _ (i j x : ℕ) (table : List ℕ) (next : Next r below p under i j table) (e : x ≡ fewestOf r below p under i j) where
-    pub stored-word : x < wordLimit
-    stored-word = rw e (number-word i j (row-inside i j table next) (column-inside i j table next))
-
-    pub stored-place : place i j < length table
-    stored-place = rw (next .held .roomy .room) (omega (arith, row-inside i j table next, column-inside i j table next))
-
-    pub stored-row : i < wordLimit
-    stored-row = omega (arith, row-inside i j table next)
-
-    pub stored-held : {written : List ℕ} → written ≡ set table (place i j) x → Held r below p under i (j + 1) written
-    stored-held w =
+    pub row-stored : {x c : ℕ} {written : List ℕ} → c ≡ getD row j 0 → x ≡ fewestOf r below p under i j → written ≡ set row j x
+        → RowHeld r below p under i (j + 1) c written
+    row-stored {x} {c} {written} d e w =
         rw w
         record {
-          roomy = record { reads = next .held .roomy .reads; updates = next .held .roomy .updates; room = simp length-set (next .held .roomy .room) };
-          cells = λ a b h l. go a b h l (decLt (place a b) (place i j));
+          room = simp length-set (next .held .room);
+          own = λ b h. go b h (decLt b j);
+          earlier = λ b h l k. getD-set-other row j b x 0 (λ q. omega arith) ∙ next .held .earlier b (omega arith) l k;
+          in-hand = λ h l. let before : pred (j + 1) ≡ j = omega arith in rw before (read-number d h);
         }
       where
-        go : (a b : ℕ) → b < steps p → place a b < place i (j + 1) → Dec (place a b < place i j) → getD (set table (place i j) x) (place a b) 0 ≡ fewestOf r below p under a b
-        go a b h l (yes k) = getD-set-other table (place i j) (place a b) x 0 (λ q. omega arith) ∙ next .held .cells a b h k
-        go a b h l (no k) =
-            let same : place a b ≡ place i j = omega arith in
-            let few : b < stepLimit = omega (arith, next .held .roomy .updates) in
-            let row : a ≡ i = omega (arith, column-inside i j table next) in
-            let column : b ≡ j = omega arith in
-            rw (row, column) (getD-set-same table (place i j) x 0 stored-place ∙ e)
+        go : (b : ℕ) → b < j + 1 → Dec (b < j) → getD (set row j x) b 0 ≡ fewestOf r below p under i b
+        go b h (yes l) = getD-set-other row j b x 0 (λ q. omega arith) ∙ next .held .own b l
+        go b h (no l) =
+            let same : b ≡ j = omega arith in
+            rw same (getD-set-same row j x 0 number-inside ∙ e)
 
-  -- from the end of a row to the next, and from a cell to those before it
-  pub held-row : (i j : ℕ) (table : List ℕ) → steps p ≤ j → Held r below p under i j table → Held r below p under (i + 1) 0 table
-  held-row i j table h held =
-      record { roomy = held .roomy; cells = λ a b l k. held .cells a b l (omega (arith, held .roomy .updates)) }
+    -- and the moves after its own is stored, j behind the start of the row
+    pub move-fits : {start : ℕ} → start ≡ cellAt (steps p) i 0 → start + j < 2 ^ 64
+    move-fits d = rw (cell-start (steps p) i j d) (cell-fits (steps p) i j (next .bounded .updates) row-inside column-inside)
 
-  pub held-less : (i j k l : ℕ) (table : List ℕ) → place i j ≤ place k l → Held r below p under k l table → Held r below p under i j table
-  held-less i j k l table h held = record { roomy = held .roomy; cells = λ a b m n. held .cells a b m (omega arith) }
+    pub move-stored : {m start : ℕ} {moves written : List ℕ} → start ≡ cellAt (steps p) i 0
+        → MovesHeld r below p under (cellAt (steps p) i j) moves → m ≡ moveOf r below p under i j → written ≡ set moves (start + j) m
+        → MovesHeld r below p under (cellAt (steps p) i (j + 1)) written
+    move-stored {m} {start} {moves} d held e w =
+        rw (w, cell-start (steps p) i j d) record { stored = λ a b h l s. go a b h l (simp length-set at s) (decLt (cellAt (steps p) a b) (cellAt (steps p) i j)) }
+      where
+        go : (a b : ℕ) → b < steps p → cellAt (steps p) a b < cellAt (steps p) i (j + 1) → cellAt (steps p) a b < length moves
+            → Dec (cellAt (steps p) a b < cellAt (steps p) i j) → getD (set moves (cellAt (steps p) i j) m) (cellAt (steps p) a b) 0 ≡ moveOf r below p under a b
+        go a b h l s (yes q) = getD-set-other moves (cellAt (steps p) i j) (cellAt (steps p) a b) m 0 (λ e. omega arith) ∙ held .stored a b h q s
+        go a b h l s (no q) =
+            let same : cellAt (steps p) a b ≡ cellAt (steps p) i j = omega (arith, cell-next (steps p) i j) in
+            let line : a ≡ i = cell-row-same (steps p) a b i j h (next .updates) same in
+            let column : b ≡ j = cell-column-same (steps p) a b i j line same in
+            rw (line, column) (getD-set-same moves (cellAt (steps p) i j) m 0 (rw same at s) ∙ e)
+
+  -- from the end of a row to the next
+  module _ (i j : ℕ) {n : ℕ} (few : j ≤ n) (end : n ≤ j) (all : n ≡ steps p) where
+    pub row-on : {corner : ℕ} {row : List ℕ} → RowHeld r below p under i j corner row → RowHeld r below p under (i + 1) 0 0 row
+    row-on held = record {
+      room = held .room;
+      own = λ b h. absurd (omega arith);
+      earlier = λ b h l k. let before : pred (i + 1) ≡ i = omega arith in rw before (held .own b (omega arith));
+      in-hand = λ h l. absurd (omega arith);
+    }
+
+    pub moves-on : {moves : List ℕ} → MovesHeld r below p under (cellAt (steps p) i j) moves → MovesHeld r below p under (cellAt (steps p) (i + 1) 0) moves
+    moves-on held = rw (cell-row (steps p) i j (omega arith)) at held
+
+  -- before the first row
+  pub row-none : {row : List ℕ} → steps p ≤ length row → RowHeld r below p under 0 0 0 row
+  row-none room = record {
+    room = room;
+    own = λ b h. absurd (omega arith);
+    earlier = λ b h l k. absurd (omega arith);
+    in-hand = λ h l. absurd (omega arith);
+  }
+
+  pub moves-none : {moves : List ℕ} → MovesHeld r below p under (cellAt (steps p) 0 0) moves
+  unfolding cellAt
+  moves-none = record { stored = λ a b h l s. absurd (omega arith) }
+
+  -- behind the last
+  pub moves-all : (i : ℕ) {m : ℕ} {moves : List ℕ} → i ≤ m → m ≤ i → m ≡ steps r → MovesHeld r below p under (cellAt (steps p) i 0) moves
+      → MovesHeld r below p under (cellAt (steps p) (steps r) 0) moves
+  moves-all i h l e held = let all : i ≡ steps r = omega arith in rw all at held

@@ -1,5 +1,6 @@
 -- Laws of meeting.
 pub mod Branches
+pub mod Places
 pub mod Cells
 pub mod Choosing
 pub mod Tracing

@@ -7,20 +7,20 @@ use native.Mathlib.Numerals.{add-one}
 use native.Mathlib.Nat.{le-refl}
 use native.Mathlib.Omega.{arith}
 use lib.Dec.{eqb}
+use borrow.Author.Tests.{ne-eqb}
 use lib.ListN.{length, drop, getD, set, length-set}
 use lib.Seq.{drop-cons, drop-set-lt, getD-set-same, getD-set-other}
-use Rattle.tables.specs.Limits.{wordLimit}
+use Rattle.tables.specs.Limits.{stepLimit, wordLimit}
 use Rattle.tables.specs.Words.{steps, label}
 use Rattle.selection.specs.Ways.{stays}
-use Rattle.conflict.specs.Meeting.{agree, landing, shared, sooner, least, shorter, longer, meeting, meetingOf}
+use Rattle.conflict.specs.Meeting.{agree, landing, shared, sooner, least, shorter, longer, meeting, meetingOf, fewest, fewestOf}
 use Rattle.conflict.specs.Crossing.{chain}
 use Rattle.conflict.proofs.Steps.{length-shorter, length-longer}
 use Rattle.conflict.proofs.Shortest.{length-meetingOf, fewestOf-most}
 use Rattle.verdict_landing.specs.Landing.{pick, labelOf}
-use Rattle.verdict_meeting.specs.Cells.{bothLand, readLands, updateLands, Next}
-use Rattle.verdict_meeting.specs.Tracing.{choose, moveOf, readAfter, updateAfter, left, Traceable}
-use Rattle.verdict_meeting.proofs.Cells.{held-less}
-use Rattle.verdict_meeting.proofs.Choosing.{move-first, move-update, move-read, move-inner}
+use Rattle.verdict_meeting.specs.Cells.{together, alone, bothLand, readLands, updateLands, choose, moveOf, cellAt}
+use Rattle.verdict_meeting.specs.Tracing.{readAfter, updateAfter, left, Traceable}
+use Rattle.verdict_meeting.proofs.Places.{cell-before}
 
 -- a way of one label more, and what is left of it behind the first
 longer-left : (may : Bool) (l : ℕ) (w : List ℕ) (k : ℕ) → length (longer may l w) ≡ suc k → longer may l w ≡ l ∷ left k w
@@ -96,15 +96,21 @@ module _ (r : List ℕ) (below : Bool) (p : List ℕ) (under : Bool) where
   abbrev updateWay : ℕ → ℕ → List ℕ
   updateWay i j = longer (stays r below (suc i)) (landing (label p (suc j))) (meetingOf r below p under (suc i) j)
 
+  inner-both : (i j : ℕ) → bothLand r below p under (suc i) (suc j) ≡ length (bothWay i j)
+  unfolding bothLand together
+  inner-both i j = rw (length-longer, length-meetingOf r below p under i j)
+
+  inner-read : (i j : ℕ) → readLands r below p under (suc i) (suc j) ≡ length (readWay i j)
+  unfolding readLands alone
+  inner-read i j = rw (length-longer, length-meetingOf r below p under i (suc j))
+
+  inner-update : (i j : ℕ) → updateLands r below p under (suc i) (suc j) ≡ length (updateWay i j)
+  unfolding updateLands alone
+  inner-update i j = rw (length-longer, length-meetingOf r below p under (suc i) j)
+
   inner-move : (i j : ℕ) → moveOf r below p under (suc i) (suc j) ≡ choose (length (bothWay i j)) (length (readWay i j)) (length (updateWay i j))
-  unfolding bothLand readLands updateLands
-  inner-move i j =
-      sym
-      (move-inner r below p under (suc i) (suc j) (λ e. omega arith) (λ e. omega arith)
-      (rw (length-longer, length-meetingOf r below p under i j))
-      (rw (length-longer, length-meetingOf r below p under i (suc j)))
-      (rw (length-longer, length-meetingOf r below p under (suc i) j))
-      refl)
+  unfolding moveOf
+  inner-move i j = rw (inner-both i j, inner-read i j, inner-update i j)
 
   inner-pick : (i j : ℕ) → meetingOf r below p under (suc i) (suc j) ≡ pick (moveOf r below p under (suc i) (suc j)) (bothWay i j) (readWay i j) (updateWay i j)
   unfolding meetingOf meeting
@@ -122,11 +128,36 @@ module _ (r : List ℕ) (below : Bool) (p : List ℕ) (under : Bool) where
       (meetingOf r below p under i j) (meetingOf r below p under i (suc j)) (meetingOf r below p under (suc i) j)
       k (rw (inner-pick i j) at e))
 
+  -- the moves of the first row and of the first column
+  first-move : (k : ℕ) → length (meetingOf r below p under 0 0) ≡ suc k → 0 ≡ moveOf r below p under 0 0
+  unfolding meetingOf meeting moveOf bothLand readLands updateLands together alone choose least sooner
+  first-move k = go (agree (label r 0) (label p 0))
+    where
+      go : (t : Bool) → length (cond t (shared (label r 0) (label p 0) ∷ []) []) ≡ suc k → 0 ≡ choose (cond t 1 0) 0 0
+      go true e = refl
+      go false e = absurd (omega arith)
+
+  update-move : (j : ℕ) → 2 ≡ moveOf r below p under 0 (suc j)
+  unfolding moveOf bothLand readLands together alone choose least sooner
+  update-move j = refl
+
+  read-number : (i : ℕ) → readLands r below p under (suc i) 0 ≡ fewestOf r below p under (suc i) 0
+  unfolding readLands alone fewestOf fewest
+  read-number i = refl
+
+  read-choice : (n k : ℕ) → n ≡ suc k → 1 ≡ choose 0 n 0
+  unfolding choose least sooner
+  read-choice n k e = rw (e, ne-eqb (suc k) 0 (λ z. omega arith))
+
+  read-move : (i k : ℕ) → length (meetingOf r below p under (suc i) 0) ≡ suc k → 1 ≡ moveOf r below p under (suc i) 0
+  unfolding moveOf bothLand updateLands together alone
+  read-move i k e = read-choice (readLands r below p under (suc i) 0) k (read-number i ∙ sym (length-meetingOf r below p under (suc i) 0) ∙ e)
+
   -- the way of i and j: the label of its move, and what is left above it
   pub followed : (i j k : ℕ) → length (meetingOf r below p under i j) ≡ suc k → Followed i j k (moveOf r below p under i j)
-  followed zero zero k e = rw (← move-first r below p under 0 0 refl refl) (first-followed k e)
-  followed zero (suc j) k e = rw (← move-update r below p under 0 (suc j) refl (λ z. omega arith)) (update-followed j k e)
-  followed (suc i) zero k e = rw (← move-read r below p under (suc i) 0 (λ z. omega arith) refl) (read-followed i k e)
+  followed zero zero k e = rw (← first-move k e) (first-followed k e)
+  followed zero (suc j) k e = rw (← update-move j) (update-followed j k e)
+  followed (suc i) zero k e = rw (← read-move i k e) (read-followed i k e)
   followed (suc i) (suc j) k e = inner-followed i j k e
 
 -- a node of a chain, written
@@ -171,33 +202,36 @@ update-less j m = go (eqb m 0) (eqb m 1)
     go false false = pred-le j
 
 -- the rest of a way is to be written, and with what stands behind it makes the whole
-pub record Rest (r : List ℕ) (below : Bool) (p : List ℕ) (under : Bool) (rest a b : ℕ) (table out whole : List ℕ) (long : ℕ) : Type 0 where
-  pub to-write : Traceable r below p under rest a b table out
+pub record Rest (r : List ℕ) (below : Bool) (p : List ℕ) (under : Bool) (rest a b : ℕ) (moves out whole : List ℕ) (long : ℕ) : Type 0 where
+  pub to-write : Traceable r below p under rest a b moves out
   pub makes : chain (left rest (meetingOf r below p under a b)) ++ drop (2 * rest) out ≡ whole
   pub size : length out ≡ long
 
-module _ (r : List ℕ) (below : Bool) (p : List ℕ) (under : Bool) (a b : ℕ) (table : List ℕ) where
-  pub rest-next : (rest : ℕ) (out : List ℕ) → Traceable r below p under rest a b table out → Next r below p under a b table
-  rest-next rest out t =
-      record {
-        held = held-less r below p under a b (steps r) 0 table (omega (arith, t .reads, t .updates, t .held .roomy .updates)) (t .held);
-        reads = t .reads;
-        updates = t .updates;
-      }
+module _ (r : List ℕ) (below : Bool) (p : List ℕ) (under : Bool) (a b : ℕ) (moves : List ℕ) where
+  pub rest-inside : (rest : ℕ) (out : List ℕ) → Traceable r below p under rest a b moves out → (steps p ≤ stepLimit) × (a < stepLimit) × (b < stepLimit)
+  rest-inside rest out t =
+      (t .moved .bounded .updates, omega (arith, t .reads, t .moved .bounded .reads), omega (arith, t .updates, t .moved .bounded .updates))
 
-  rest-most : (rest : ℕ) (out : List ℕ) → Traceable r below p under rest a b table out → rest ≤ a + b + 1
+  -- the move that is read is that of the cell
+  pub rest-move : (rest : ℕ) (out : List ℕ) {m : ℕ} → Traceable r below p under rest a b moves out → m ≡ getD moves (cellAt (steps p) a b) 0
+      → m ≡ moveOf r below p under a b
+  rest-move rest out t e =
+      let before : cellAt (steps p) a b < cellAt (steps p) (steps r) 0 = cell-before (steps p) a b (steps r) (t .updates) (t .reads) in
+      e ∙ t .moved .held .stored a b (t .updates) before (omega (arith, before, t .moved .all))
+
+  rest-most : (rest : ℕ) (out : List ℕ) → Traceable r below p under rest a b moves out → rest ≤ a + b + 1
   unfolding left
   rest-most zero out t = omega arith
   rest-most (suc k) out t = omega (arith, t .long, length-meetingOf r below p under a b, fewestOf-most r below p under a b)
 
-  pub rest-word : (rest : ℕ) (out : List ℕ) → Traceable r below p under rest a b table out → rest - 1 < wordLimit
+  pub rest-word : (rest : ℕ) (out : List ℕ) → Traceable r below p under rest a b moves out → rest - 1 < wordLimit
   rest-word rest out t =
-      omega (arith, rest-most rest out t, t .reads, t .updates, t .held .roomy .reads, t .held .roomy .updates)
+      omega (arith, rest-most rest out t, t .reads, t .updates, t .moved .bounded .reads, t .moved .bounded .updates)
 
   module _ (k : ℕ) {m l : ℕ} (out written whole : List ℕ) (long : ℕ) (step : m ≡ moveOf r below p under a b) (named : l ≡ labelOf r p a b m)
       (put : drop (2 * k) written ≡ pred k ∷ l ∷ drop (2 * (k + 1)) out) (size : length written ≡ length out) where
-    rest-on-suc : Rest r below p under (suc k) a b table out whole long
-        → Rest r below p under k (readAfter a m) (updateAfter b m) table written whole long
+    rest-on-suc : Rest r below p under (suc k) a b moves out whole long
+        → Rest r below p under k (readAfter a m) (updateAfter b m) moves written whole long
     unfolding left chain
     rest-on-suc rest =
         let t = rest .to-write in
@@ -208,7 +242,7 @@ module _ (r : List ℕ) (below : Bool) (p : List ℕ) (under : Bool) (a b : ℕ)
         rw (split, few, add-one k) (append-assoc (chain above) (pred k ∷ l ∷ []) (drop (2 * suc k) out)) in
         record {
           to-write = record {
-            held = t .held;
+            moved = t .moved;
             reads = omega (arith, read-less a m, t .reads);
             updates = omega (arith, update-less b m, t .updates);
             long = few;
@@ -219,15 +253,15 @@ module _ (r : List ℕ) (below : Bool) (p : List ℕ) (under : Bool) (a b : ℕ)
         }
 
     pub rest-on : (rest : ℕ) {i j : ℕ} → rest ≡ suc k → i ≡ readAfter a m → j ≡ updateAfter b m
-        → Rest r below p under rest a b table out whole long → Rest r below p under k i j table written whole long
+        → Rest r below p under rest a b moves out whole long → Rest r below p under k i j moves written whole long
     rest-on rest e d f h = rw (d, f) (rest-on-suc (rw e at h))
 
   -- at first the whole is to be written, at last nothing
-  pub rest-all : (n : ℕ) (out : List ℕ) → Traceable r below p under n a b table out
-      → Rest r below p under n a b table out (chain (left n (meetingOf r below p under a b)) ++ drop (2 * n) out) (length out)
+  pub rest-all : (n : ℕ) (out : List ℕ) → Traceable r below p under n a b moves out
+      → Rest r below p under n a b moves out (chain (left n (meetingOf r below p under a b)) ++ drop (2 * n) out) (length out)
   rest-all n out t = record { to-write = t; makes = refl; size = refl }
 
-  pub rest-none : (rest : ℕ) (out whole : List ℕ) (long : ℕ) → rest ≤ 0 → Rest r below p under rest a b table out whole long → out ≡ whole
+  pub rest-none : (rest : ℕ) (out whole : List ℕ) (long : ℕ) → rest ≤ 0 → Rest r below p under rest a b moves out whole long → out ≡ whole
   unfolding left chain
   rest-none zero out whole long h t = t .makes
   rest-none (suc k) out whole long h t = absurd (omega arith)

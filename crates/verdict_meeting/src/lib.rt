@@ -1,17 +1,16 @@
 // The shortest way on which a read and an update meet, counted and written.
 mod fill;
 mod moves;
+mod numbers;
+mod rows;
 mod witness;
 
-use crate::fill::cell;
-use crate::fill::fill;
-use crate::moves::is_sooner;
+use crate::rows::nearest_state;
 use crate::witness::trace;
 use check_verdict::patterns_check;
 use tables::limits::STEP_LIMIT;
 use tables::refusal::Checked;
-use tables::words::byte;
-ghost use Prim.Native.Nat.{_*_, _<_};
+ghost use Prim.Native.Nat.{_*_, _<_, _≤_};
 ghost use mathlib.Core.Path.{_≡_};
 ghost use mathlib.Core.Bool.{cond};
 ghost use mathlib.Core.List.{[]};
@@ -20,52 +19,38 @@ ghost use lib.ListN.{length};
 ghost use Rattle.tables.specs.Limits.{stepLimit};
 ghost use Rattle.tables.specs.Words.{steps};
 ghost use Rattle.check_verdict.specs.Admitted.{Bounded};
-ghost use Rattle.check_verdict.specs.Order.{patternsCheck};
-ghost use Rattle.verdict_meeting.specs.Met.{markedWay, nearest, met, Met};
-ghost use Rattle.verdict_meeting.specs.Nearing.{Ready};
+ghost use Rattle.check_verdict.specs.Order.{patternsCheck, needed};
+ghost use Rattle.verdict_meeting.specs.Met.{nearest, met, Met};
+ghost use Rattle.verdict_meeting.specs.Cells.{cellAt};
+ghost use Rattle.verdict_meeting.specs.Nearing.{Asked, Lent, smallCells};
 
-// Pairs of states.
+// Pairs of states: few enough for a small table of moves, and at most.
+const SMALL_CELLS: usize = 4096;
+
 const CELLS: usize = STEP_LIMIT * STEP_LIMIT;
 
-// A cell for every pair of states.
-fn blank_cells() -> [u16; CELLS]
+// A number for every state of the update.
+fn blank_row() -> [u16; STEP_LIMIT]
+    ensures { λ t. ⌜ length t ≡ stepLimit ⌝ }
+{
+    [0; STEP_LIMIT]
+}
+
+// A move for each of few pairs of states, and for every pair.
+fn few_moves() -> [u8; SMALL_CELLS]
+    ensures { λ t. ⌜ length t ≡ smallCells ⌝ }
+{
+    [0; SMALL_CELLS]
+}
+
+fn all_moves() -> [u8; CELLS]
     ensures { λ t. ⌜ length t ≡ stepLimit * stepLimit ⌝ }
 {
     [0; CELLS]
 }
 
-// How many labels the way of i and j has, none where i is not marked.
-fn candidate(
-    r: &[u16],
-    below: bool,
-    p: &[u16],
-    under: bool,
-    states: &[u8],
-    j: usize,
-    i: usize,
-    table: &[u16],
-) -> usize
-    requires { ⌜ Ready (now r) below (now p) under j (now table) ⌝ }
-    requires { ⌜ i < steps (now r) ⌝ }
-    ensures { λ n. ⌜ n ≡ length (markedWay (now (r .entry)) below (now (p .entry)) under (now (states .entry)) j i) ⌝ }
-{
-    if byte(states, i) == 1 {
-        return cell(table, i, j);
-    }
-    0
-}
-
-// The first of two, if it is to be kept.
-fn one_of(keep: bool, first: usize, second: usize) -> usize
-    ensures { λ n. ⌜ n ≡ cond keep first second ⌝ }
-{
-    if keep {
-        return first;
-    }
-    second
-}
-
-// The shortest way over the marked states, of equally short ones that of the least state; written where there is room for the longest.
+// The shortest way over the marked states to state j of the update, by a row of its own and moves that are lent; written where there is
+// room for the longest.
 fn write_nearest(
     r: &[u16],
     below: bool,
@@ -73,32 +58,77 @@ fn write_nearest(
     under: bool,
     states: &[u8],
     j: usize,
-    table: &[u16],
+    moves: &mut [u8],
     out: &mut [u16],
 ) -> usize
-    requires { ⌜ Ready (now r) below (now p) under j (now table) ⌝ }
+    requires { ⌜ Asked (now r) (now p) j ⌝ }
+    requires { ⌜ Lent (now r) (now p) (now moves) (now out) ⌝ }
     ensures { λ n. ⌜ Met (now (r .entry)) (now (p .entry)) (nearest (now (r .entry)) below (now (p .entry)) under (now (states .entry)) j (steps (now (r .entry)))) (now (out .entry)) (now (out .exit)) n ⌝ }
 {
-    let m = r.len() / 2;
-    let n = p.len() / 2;
-    let mut number = 0;
-    let mut state = 0;
-    let mut i = 0;
-    while i < m {
-        let own = candidate(r, below, p, under, states, j, i, table);
-        let keep = is_sooner(number, own);
-        number = one_of(keep, number, own);
-        state = one_of(keep, state, i);
-        i += 1;
-    }
-    if out.len() < 2 * (m + n - 1) {
+    let mut row = blank_row();
+    let best = nearest_state(r, below, p, under, states, j, &mut row, moves);
+    let number = best.number;
+    if out.len() < 2 * (r.len() / 2 + p.len() / 2 - 1) {
         return number;
     }
-    trace(r, below, p, under, number, state, j, table, out);
+    trace(r, below, p, under, number, best.state, j, moves, out);
     number
 }
 
-// The same of admitted patterns, over a table of its own; none where j is no state of p.
+// It is counted only: no move is stored.
+fn count_only(
+    r: &[u16],
+    below: bool,
+    p: &[u16],
+    under: bool,
+    states: &[u8],
+    j: usize,
+    out: &mut [u16],
+) -> usize
+    requires { ⌜ Asked (now r) (now p) j ⌝ }
+    requires { ⌜ length (now out) < needed (now r) (now p) ⌝ }
+    ensures { λ n. ⌜ Met (now (r .entry)) (now (p .entry)) (nearest (now (r .entry)) below (now (p .entry)) under (now (states .entry)) j (steps (now (r .entry)))) (now (out .entry)) (now (out .exit)) n ⌝ }
+{
+    let mut moves = [0u8; 0];
+    write_nearest(r, below, p, under, states, j, &mut moves, out)
+}
+
+// By a small table of moves.
+fn write_few(
+    r: &[u16],
+    below: bool,
+    p: &[u16],
+    under: bool,
+    states: &[u8],
+    j: usize,
+    out: &mut [u16],
+) -> usize
+    requires { ⌜ Asked (now r) (now p) j ⌝ }
+    requires { ⌜ steps (now p) * steps (now r) ≤ smallCells ⌝ }
+    ensures { λ n. ⌜ Met (now (r .entry)) (now (p .entry)) (nearest (now (r .entry)) below (now (p .entry)) under (now (states .entry)) j (steps (now (r .entry)))) (now (out .entry)) (now (out .exit)) n ⌝ }
+{
+    let mut moves = few_moves();
+    write_nearest(r, below, p, under, states, j, &mut moves, out)
+}
+
+// By one with room for every pair of states.
+fn write_all(
+    r: &[u16],
+    below: bool,
+    p: &[u16],
+    under: bool,
+    states: &[u8],
+    j: usize,
+    out: &mut [u16],
+) -> usize
+    requires { ⌜ Asked (now r) (now p) j ⌝ }
+    ensures { λ n. ⌜ Met (now (r .entry)) (now (p .entry)) (nearest (now (r .entry)) below (now (p .entry)) under (now (states .entry)) j (steps (now (r .entry)))) (now (out .entry)) (now (out .exit)) n ⌝ }
+{
+    let mut moves = all_moves();
+    write_nearest(r, below, p, under, states, j, &mut moves, out)
+}
+
+// The same of admitted patterns, with as many moves as are wanted; none where j is no state of p.
 fn shortest(
     r: &[u16],
     below: bool,
@@ -111,12 +141,18 @@ fn shortest(
     requires { ⌜ Bounded (now r) (now p) ⌝ }
     ensures { λ n. ⌜ Met (now (r .entry)) (now (p .entry)) (cond (ltb j (steps (now (p .entry)))) (nearest (now (r .entry)) below (now (p .entry)) under (now (states .entry)) j (steps (now (r .entry)))) []) (now (out .entry)) (now (out .exit)) n ⌝ }
 {
-    if p.len() / 2 <= j {
+    let m = r.len() / 2;
+    let n = p.len() / 2;
+    if n <= j {
         return 0;
     }
-    let mut table = blank_cells();
-    fill(r, below, p, under, &mut table);
-    write_nearest(r, below, p, under, states, j, &table, out)
+    if out.len() < 2 * (m + n - 1) {
+        return count_only(r, below, p, under, states, j, out);
+    }
+    if n * m <= SMALL_CELLS {
+        return write_few(r, below, p, under, states, j, out);
+    }
+    write_all(r, below, p, under, states, j, out)
 }
 
 // The shortest way on which both run, the read in a state that is marked by a 1 and the update in state j; each flag says whether anything

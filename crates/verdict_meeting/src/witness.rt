@@ -1,59 +1,26 @@
-// The witness: the way of a cell, followed back through the table and written as a chain.
-use crate::fill::both_land;
-use crate::fill::read_lands;
-use crate::fill::update_lands;
+// The witness: the way of a cell, followed back by its moves and written as a chain.
+use crate::fill::cell_at;
 use crate::moves::earlier;
-use crate::moves::is_sooner;
-use crate::moves::least_of;
+use tables::words::byte;
 use verdict_landing::landing_at;
 ghost use Prim.Native.Nat.{pred, _+_, _*_, _<_, _≤_};
 ghost use mathlib.Core.Path.{_≡_};
 ghost use mathlib.Core.List.{_∷_, _++_};
-ghost use lib.ListN.{length, drop};
-ghost use Rattle.tables.specs.Limits.{wordLimit};
+ghost use lib.ListN.{length, drop, getD};
+ghost use Rattle.tables.specs.Limits.{stepLimit, wordLimit};
+ghost use Rattle.tables.specs.Words.{steps};
 ghost use Rattle.conflict.specs.Meeting.{meetingOf};
 ghost use Rattle.conflict.specs.Crossing.{chain};
-ghost use Rattle.verdict_meeting.specs.Cells.{Next};
-ghost use Rattle.verdict_meeting.specs.Tracing.{choose, moveOf, readAfter, updateAfter, left, Traceable};
-
-// The move that leads to the least of three numbers: 0, both land; 1, the read lands; 2, the update lands.
-fn chosen(both: usize, read: usize, update: usize) -> usize
-    ensures { λ m. ⌜ m ≡ choose both read update ⌝ }
-{
-    if is_sooner(both, least_of(read, update)) {
-        return 0;
-    }
-    if is_sooner(read, update) {
-        return 1;
-    }
-    2
-}
+ghost use Rattle.verdict_meeting.specs.Cells.{cellAt};
+ghost use Rattle.verdict_meeting.specs.Tracing.{readAfter, updateAfter, left, Traceable};
 
 // The move at the nearest label of the way of i and j.
-fn move_at(
-    r: &[u16],
-    below: bool,
-    p: &[u16],
-    under: bool,
-    i: usize,
-    j: usize,
-    table: &[u16],
-) -> usize
-    requires { ⌜ Next (now r) below (now p) under i j (now table) ⌝ }
-    ensures { λ m. ⌜ m ≡ moveOf (now (r .entry)) below (now (p .entry)) under i j ⌝ }
+fn move_at(p: &[u16], i: usize, j: usize, moves: &[u8]) -> usize
+    requires { ⌜ (steps (now p) ≤ stepLimit) × (i < stepLimit) × (j < stepLimit) ⌝ }
+    ensures { λ m. ⌜ m ≡ getD (now (moves .entry)) (cellAt (steps (now (p .entry))) i j) 0 ⌝ }
 {
-    if i == 0 {
-        if j == 0 {
-            return 0;
-        }
-        return 2;
-    }
-    if j == 0 {
-        return 1;
-    }
-    let read = read_lands(r, below, p, under, i, j, table);
-    let update = update_lands(r, below, p, under, i, j, table);
-    chosen(both_land(r, below, p, under, i, j, table), read, update)
+    let n = p.len() / 2;
+    byte(moves, cell_at(n, i, j))
 }
 
 // The read's state above a move.
@@ -98,17 +65,17 @@ pub(crate) fn trace(
     n: usize,
     i: usize,
     j: usize,
-    table: &[u16],
+    moves: &[u8],
     out: &mut [u16],
 )
-    requires { ⌜ Traceable (now r) below (now p) under n i j (now table) (now out) ⌝ }
+    requires { ⌜ Traceable (now r) below (now p) under n i j (now moves) (now out) ⌝ }
     ensures { λ _. ⌜ now (out .exit) ≡ chain (left n (meetingOf (now (r .entry)) below (now (p .entry)) under i j)) ++ drop (2 * n) (now (out .entry)) ⌝ }
 {
     let mut rest = n;
     let mut a = i;
     let mut b = j;
     while 0 < rest {
-        let m = move_at(r, below, p, under, a, b, table);
+        let m = move_at(p, a, b, moves);
         rest -= 1;
         put(out, rest, landing_at(r, p, a, b, m));
         a = read_after(a, m);

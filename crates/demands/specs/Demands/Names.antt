@@ -64,7 +64,7 @@ pub use Rattle.batch_check.specs.Batches.{batchOf, batchCheck, planCheck}
 pub use Rattle.batch_mode.specs.Modes.{relationOf, modeCheck, modeOf}
 pub use Rattle.batch_mode.specs.declared.Mode.{Mode}
 pub use Rattle.batch_mode.specs.declared.Mode.the-variants as mode
-pub use Rattle.batch_plan.specs.Batch.{PlanOf, Plan, planInCheck, PlanIn, SlotIs}
+pub use Rattle.batch_plan.specs.Batch.{PlanBy, PlanOf, Plan, planInCheck, PlanIn, SlotIs}
 pub use Rattle.outcomes.specs.declared.plans.Planned.{Planned}
 pub use Rattle.outcomes.specs.declared.plans.Planned.the-variants as planned
 -- orders of a batch, and a batch run call by call: when two runs give the same
@@ -72,6 +72,12 @@ pub use Rattle.order.specs.Order.{Stands, Before, own}
 pub use Rattle.order_calls.specs.Calls.{Reply, Called, called, Run, Has, Runs, NoRoom, Works, SameRuns}
 -- deletes called one after another, each call by Delete
 pub use Rattle.order_deletes.specs.Deletes.{Deletes, total, CalledInTurn, abc, a/b, a//c}
+-- installations with other limits: their checks, and what one answers to what another accepts
+pub use Rattle.older.specs.Installations.{Installation, ours, before-longer, Within, longest, frameIn, takeIn, batchIn, planIn, pairIn, verdictIn}
+pub use Rattle.older.specs.Answers.{toFrame, toLine, longRead}
+pub use Rattle.batch_frame.specs.Frames.{frameCheck, frameOf, answered}
+pub use Rattle.outcomes.specs.declared.frames.Extent.{Extent}
+pub use Rattle.outcomes.specs.declared.frames.Framed.the-variants as framed
 -- lines: ReadAs is promised by read_line, WrittenAs by write_line
 pub use Rattle.text_line_in.specs.Lines.{lineCheck, ReadAs}
 pub use Rattle.outcomes.specs.declared.texts.Parsed.the-variants as parsed

@@ -15,4 +15,4 @@ entering-states-spec =
     (λ c. search needs)
     (λ c κs. search needs)
     (λ c. states-on (c .before .before .before .accepted .ensures) _ _ (c .before .enum-told .given .1) (c .entered-states .ensures))
-    (λ c. states-off (c .before .before .before .accepted .ensures) _ _ (c .before .enum-told2 .given .1) (c .blank-states .ensures)))
+    (λ c. states-off (c .before .before .before .accepted .ensures) _ _ (c .before .enum-told2 .given .1) (c .no-state .ensures)))

@@ -1,6 +1,6 @@
--- The row is written only where every check is fine.
+-- A reading at the last step alone.
 use borrow.Author.Needs.{needs}
-use Rattle.doc_read.proofs.Meeting.{fine-readable, read-fine, read-refused}
+use Rattle.doc_read.proofs.Meeting.{last-read}
 use Rattle.doc_read.proofs.read.reading.Statement.{statement}
 use Rattle.doc_read.proofs.read.reading.Tie as tie
 
@@ -10,9 +10,6 @@ reading-spec =
     (tie.spec
     (λ c κs. search needs)
     (λ c. search needs)
-    (λ c κs. fine-readable _ _ _ _ (c .before .before .before .checked .ensures) (c .before .enum-told .given .1))
+    (λ c κs. search needs)
     (λ c. search needs)
-    (λ c. search needs)
-    (λ c. read-fine _ _ _ _ (c .before .before .before .before .before .before .checked .ensures)
-    (c .before .before .before .before .enum-told .given .1) (c .before .before .filled .ensures))
-    (λ c. read-refused _ _ _ _ (c .before .before .before .checked .ensures) (c .before .r .given .1)))
+    (λ c. last-read _ (c .before .before .before .before .before .last-wanted .ensures) (c .before .before .reading-at .ensures)))

@@ -8,10 +8,10 @@ use Rattle.test_small.proofs.long_reads.document.Tie as tie
 
 abbrev Inv-loop : tie.InvT-loop
 Inv-loop d rows₀ marks₀ s₀ v₀ rows marks s v =
-    (v ≤ 256) × (length rows ≡ length rows₀) × (length marks ≡ length marks₀)
+    (v ≤ 1024) × (length rows ≡ length rows₀) × (length marks ≡ length marks₀)
 
 abbrev μ-loop : tie.MeasureT-loop
-μ-loop d rows₀ marks₀ s₀ v₀ rows marks s v = 256 - v
+μ-loop d rows₀ marks₀ s₀ v₀ rows marks s v = 1024 - v
 
 pub document-spec : {M : Type 1} → statement M
 document-spec =

@@ -8,7 +8,6 @@ pub landing-above-spec : {M : Type 1} → statement M
 landing-above-spec =
     tie.close
     (tie.spec
-    (λ c. search needs)
     (λ c κs. search needs)
     (λ c. search lands-not)
     (λ c. search needs)

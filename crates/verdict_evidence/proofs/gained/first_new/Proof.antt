@@ -1,7 +1,8 @@
 -- The point, then the node of its copy.
 use borrow.Author.Needs.{needs}
 use native.Mathlib.Omega.{arith}
-use Rattle.verdict_evidence.proofs.Opening.{new-none, new-some, points-most, copy-most}
+use Rattle.verdict_evidence.proofs.Opening.{new-none, new-some, new-most}
+use Rattle.verdict_evidence.proofs.Granted.{gained-hung, gained-nodes}
 use Rattle.verdict_evidence.proofs.gained.first_new.Statement.{statement}
 use Rattle.verdict_evidence.proofs.gained.first_new.Tie as tie
 
@@ -10,38 +11,16 @@ first-new-spec =
     tie.close
     (tie.spec
     (λ c κs. search needs)
-    (λ c. search needs)
+    (λ c. search new-none)
+    (λ c κs. search gained-hung)
     (λ c κs. search needs)
-    (λ c. new-none (c .before .before .before .before .before .before .before .before .before .before .before .before .args .r .now) (c .before .before .before .before .before .before .before .before .before .before .before .before .args .p .now) (c .before .before .before .before .before .before .before .before .before .before .before .before .args .x .now) (c .before .before .before .before .before .before .before .before .before .before .before .before .args .t .now) (c .before .before .before .before .before .before .before .before .before .before .before .before .args .row .now) (c .before .before .before .before .before .before .before .before .before .before .before .before .pre .0) (c .before .before .before .before .before .before .before .before .before .before .before .before .pre .1)
-    (λ i. omega (arith, c .before .before .before .before .before .before .before .shared-slice-known5 .given i)) (λ i. omega (arith, c .before .before .before .before .before .before .shared-slice-known6 .given i)) (c .before .before .first-wanted .ensures) (c .if1 .taken))
-    (λ c. search needs)
-    (λ c κs. search needs)
-    (λ c. search needs)
-    (λ c κs. search needs)
-    (λ c κs. search needs)
-    (λ c. omega (
-      arith,
-      points-most (c .before .before .before .before .before .before .before .before .before .before .before .before .before .before .before .before .before .before .args .r .now) (c .before .before .before .before .before .before .before .before .before .before .before .before .before .before .before .before .before .before .args .p .now) (c .before .before .before .before .before .before .before .before .before .before .before .before .before .before .before .before .before .before .args .x .now) (c .before .before .before .before .before .before .before .before .before .before .before .before .before .before .before .before .before .before .args .t .now) (c .before .before .before .before .before .before .before .before .before .before .before .before .before .before .before .before .before .before .args .row .now) (c .before .before .before .before .before .before .before .before .before .before .before .before .before .before .before .before .before .before .pre .0) (c .before .before .before .before .before .before .before .before .before .before .before .before .before .before .before .before .before .before .pre .1)
-          (λ i. omega (arith, c .before .before .before .before .before .before .before .before .before .before .before .before .before .shared-slice-known5 .given i)) (λ i. omega (arith, c .before .before .before .before .before .before .before .before .before .before .before .before .shared-slice-known6 .given i))
-          (c .before .before .before .before .before .before .before .before .first-wanted .ensures) (c .before .before .before .before .before .before .if1 .left) (c .counted .ensures),
-    ))
-    (λ c. omega (
-      arith,
-      points-most (c .before .before .before .before .before .before .before .before .before .before .before .before .before .before .before .before .before .before .args .r .now) (c .before .before .before .before .before .before .before .before .before .before .before .before .before .before .before .before .before .before .args .p .now) (c .before .before .before .before .before .before .before .before .before .before .before .before .before .before .before .before .before .before .args .x .now) (c .before .before .before .before .before .before .before .before .before .before .before .before .before .before .before .before .before .before .args .t .now) (c .before .before .before .before .before .before .before .before .before .before .before .before .before .before .before .before .before .before .args .row .now) (c .before .before .before .before .before .before .before .before .before .before .before .before .before .before .before .before .before .before .pre .0) (c .before .before .before .before .before .before .before .before .before .before .before .before .before .before .before .before .before .before .pre .1)
-          (λ i. omega (arith, c .before .before .before .before .before .before .before .before .before .before .before .before .before .shared-slice-known5 .given i)) (λ i. omega (arith, c .before .before .before .before .before .before .before .before .before .before .before .before .shared-slice-known6 .given i))
-          (c .before .before .before .before .before .before .before .before .first-wanted .ensures) (c .before .before .before .before .before .before .if1 .left) (c .counted .ensures),
-      c .before .before .before .before .before .before .before .before .before .before .before .before .before .before .before .before .before .before .pre .1 .proposed .most,
-      c .before .before .before .before .before .before .before .before .before .before .before .before .before .before .before .before .before .before .pre .1 .inserted .most,
-    ))
-    (λ c. omega (
-      arith,
-      points-most (c .before .before .before .before .before .before .before .before .before .before .before .before .before .before .before .before .before .before .args .r .now) (c .before .before .before .before .before .before .before .before .before .before .before .before .before .before .before .before .before .before .args .p .now) (c .before .before .before .before .before .before .before .before .before .before .before .before .before .before .before .before .before .before .args .x .now) (c .before .before .before .before .before .before .before .before .before .before .before .before .before .before .before .before .before .before .args .t .now) (c .before .before .before .before .before .before .before .before .before .before .before .before .before .before .before .before .before .before .args .row .now) (c .before .before .before .before .before .before .before .before .before .before .before .before .before .before .before .before .before .before .pre .0) (c .before .before .before .before .before .before .before .before .before .before .before .before .before .before .before .before .before .before .pre .1)
-          (λ i. omega (arith, c .before .before .before .before .before .before .before .before .before .before .before .before .before .shared-slice-known5 .given i)) (λ i. omega (arith, c .before .before .before .before .before .before .before .before .before .before .before .before .shared-slice-known6 .given i))
-          (c .before .before .before .before .before .before .before .before .first-wanted .ensures) (c .before .before .before .before .before .before .if1 .left) (c .counted .ensures),
-      c .before .before .before .before .before .before .before .before .before .before .before .before .before .before .before .before .before .before .pre .1 .proposed .most,
-      c .before .before .before .before .before .before .before .before .before .before .before .before .before .before .before .before .before .before .pre .1 .inserted .most,
-      copy-most _ _ (c .before .before .copy-node .ensures),
-    ))
-    (λ c. new-some (c .before .before .before .before .before .before .before .before .before .before .before .before .before .before .before .before .before .before .args .r .now) (c .before .before .before .before .before .before .before .before .before .before .before .before .before .before .before .before .before .before .args .p .now) (c .before .before .before .before .before .before .before .before .before .before .before .before .before .before .before .before .before .before .args .x .now) (c .before .before .before .before .before .before .before .before .before .before .before .before .before .before .before .before .before .before .args .t .now) (c .before .before .before .before .before .before .before .before .before .before .before .before .before .before .before .before .before .before .args .row .now) (c .before .before .before .before .before .before .before .before .before .before .before .before .before .before .before .before .before .before .pre .0) (c .before .before .before .before .before .before .before .before .before .before .before .before .before .before .before .before .before .before .pre .1)
-    (λ i. omega (arith, c .before .before .before .before .before .before .before .before .before .before .before .before .before .shared-slice-known5 .given i)) (λ i. omega (arith, c .before .before .before .before .before .before .before .before .before .before .before .before .shared-slice-known6 .given i))
-    (c .before .before .before .before .before .before .before .before .first-wanted .ensures) (c .before .before .before .before .before .before .if1 .left) (c .before .before .before .before .set-at .ensures) (c .counted .ensures) (c .before .before .copy-node .ensures)))
+    (λ c.
+    let start = c .before .before .before .before .before .before .before .before .before .before in
+    omega (arith, new-most (start .args .points .now) (start .args .x .now) (start .args .t .now) _ _ (gained-nodes _ _ _ _ (start .pre .0)) (c .before .before .if1 .left) (c .counted .ensures) (c .before .copy-node .ensures)))
+    (λ c.
+    let start = c .before .before .before .before .before .before .before .before .before .before in
+    omega (arith, new-most (start .args .points .now) (start .args .x .now) (start .args .t .now) _ _ (gained-nodes _ _ _ _ (start .pre .0)) (c .before .before .if1 .left) (c .counted .ensures) (c .before .copy-node .ensures)))
+    (λ c.
+    let start = c .before .before .before .before .before .before .before .before .before .before in
+    omega (arith, new-most (start .args .points .now) (start .args .x .now) (start .args .t .now) _ _ (gained-nodes _ _ _ _ (start .pre .0)) (c .before .before .if1 .left) (c .counted .ensures) (c .before .copy-node .ensures)))
+    (λ c. search new-some))
