@@ -1,2 +1,2 @@
--- Laws of one step at one node.
+-- Laws of one step of a pattern.
 pub mod Branches

@@ -123,7 +123,7 @@ module _ (r p x t points enterable : List ℕ) (chose : Chosen p (bare t) points
         rw (← point-first e, lt-ltb q (nodes t) h, f, g, count-ext (chosen points) (selected p (bare t)) q (λ v l. row-test p t points chose v (omega arith)))
 
 -- it is a number of the machine
-pub new-most : (points x t : List ℕ) (q : ℕ) (f : ℕ → Bool) {c k : ℕ} → (nodes x ≤ treeLimit) × (nodes t ≤ treeLimit) → q < nodes t → c ≡ count (chosen points) q → k ≡ firstOf f (nodes x)
+pub new-most : (points x t : List ℕ) (q : ℕ) (f : ℕ → Bool) {c k : ℕ} → (nodes x ≤ treeLimit) × (nodes t ≤ treeLimit) → c ≡ count (chosen points) q → q ≤ nodes t → k ≡ firstOf f (nodes x)
     → (c * nodes x ≤ treeLimit * treeLimit) × (nodes t ≤ treeLimit) × (k ≤ treeLimit)
-new-most points x t q f {c} few h e g =
+new-most points x t q f {c} few e h g =
     (product-most c (nodes x) (omega (arith, few, count-most (chosen points) q)) (few .0), few .1, omega (arith, few, copy-most f (nodes x) g))

@@ -1,7 +1,7 @@
 -- One cell after the other: which numbers are read, what is written, and what the row and the moves then hold.
 use Prim.Native.Nat.{ℕ, zero, suc, pred, _+_, _^_, _<_, _≤_}
-use mathlib.Core.Path.{_≡_, refl, sym, _∙_}
-use mathlib.Core.Bool.{Bool, true, false, cond}
+use mathlib.Core.Path.{_≡_, refl, _∙_}
+use mathlib.Core.Bool.{Bool, cond}
 use mathlib.Core.List.{List}
 use native.Mathlib.Decide.{decLt}
 use native.Mathlib.Nat.{le-refl}
@@ -14,7 +14,6 @@ use Rattle.tables.specs.Words.{steps, label}
 use Rattle.selection.specs.Ways.{stays}
 use Rattle.conflict.specs.Meeting.{agree, sooner, least, fewest, fewestOf}
 use Rattle.conflict.proofs.Shortest.{fewestOf-most}
-use Rattle.check_verdict.specs.Admitted.{Bounded}
 use Rattle.verdict_meeting.specs.Cells.{together, alone, bothLand, readLands, updateLands, choose, moveOf, cellAt, RowHeld, MovesHeld, Next}
 use Rattle.verdict_meeting.proofs.Places.{cell-start, cell-fits, cell-next, cell-row, cell-row-same, cell-column-same}
 

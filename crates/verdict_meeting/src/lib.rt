@@ -21,7 +21,6 @@ ghost use Rattle.tables.specs.Words.{steps};
 ghost use Rattle.check_verdict.specs.Admitted.{Bounded};
 ghost use Rattle.check_verdict.specs.Order.{patternsCheck, needed};
 ghost use Rattle.verdict_meeting.specs.Met.{nearest, met, Met};
-ghost use Rattle.verdict_meeting.specs.Cells.{cellAt};
 ghost use Rattle.verdict_meeting.specs.Nearing.{Asked, Lent, smallCells};
 
 // Pairs of states: few enough for a small table of moves, and at most.

@@ -16,11 +16,11 @@ first-new-spec =
     (λ c κs. search needs)
     (λ c.
     let start = c .before .before .before .before .before .before .before .before .before .before in
-    omega (arith, new-most (start .args .points .now) (start .args .x .now) (start .args .t .now) _ _ (gained-nodes _ _ _ _ (start .pre .0)) (c .before .before .if1 .left) (c .counted .ensures) (c .before .copy-node .ensures)))
+    omega (arith, new-most (start .args .points .now) (start .args .x .now) (start .args .t .now) _ _ (gained-nodes _ _ _ _ (start .pre .0)) (c .counted .ensures) (omega (arith, c .before .before .if1 .left)) (c .before .copy-node .ensures)))
     (λ c.
     let start = c .before .before .before .before .before .before .before .before .before .before in
-    omega (arith, new-most (start .args .points .now) (start .args .x .now) (start .args .t .now) _ _ (gained-nodes _ _ _ _ (start .pre .0)) (c .before .before .if1 .left) (c .counted .ensures) (c .before .copy-node .ensures)))
+    omega (arith, new-most (start .args .points .now) (start .args .x .now) (start .args .t .now) _ _ (gained-nodes _ _ _ _ (start .pre .0)) (c .counted .ensures) (omega (arith, c .before .before .if1 .left)) (c .before .copy-node .ensures)))
     (λ c.
     let start = c .before .before .before .before .before .before .before .before .before .before in
-    omega (arith, new-most (start .args .points .now) (start .args .x .now) (start .args .t .now) _ _ (gained-nodes _ _ _ _ (start .pre .0)) (c .before .before .if1 .left) (c .counted .ensures) (c .before .copy-node .ensures)))
+    omega (arith, new-most (start .args .points .now) (start .args .x .now) (start .args .t .now) _ _ (gained-nodes _ _ _ _ (start .pre .0)) (c .counted .ensures) (omega (arith, c .before .before .if1 .left)) (c .before .copy-node .ensures)))
     (λ c. search new-some))

@@ -1,8 +1,5 @@
 -- Places are small numbers.
-use native.Mathlib.Omega.{arith}
 use Rattle.verdict_meeting.proofs.Places.{product-fits, place-fits, place-is}
-use Rattle.verdict_meeting.specs.Cells.{cellAt}
-use borrow.Author.Needs.{needs}
 use Rattle.verdict_meeting.proofs.fill.cell_at.Statement.{statement}
 use Rattle.verdict_meeting.proofs.fill.cell_at.Tie as tie
 

@@ -1,7 +1,6 @@
 -- The cells of the row, one after the other.
 use Prim.Native.Nat.{_≤_, _-_}
-use mathlib.Core.Path.{_≡_, _∙_}
-use native.Mathlib.Omega.{arith}
+use mathlib.Core.Path.{_≡_}
 use lib.ListN.{length}
 use Rattle.tables.specs.Words.{steps}
 use Rattle.verdict_meeting.specs.Cells.{cellAt, RowHeld, MovesHeld}

@@ -1,6 +1,5 @@
 -- The branches of the code are those of the definition.
 use Rattle.verdict_meeting.proofs.Choosing.{first-lands, first-fails}
-use borrow.Author.Needs.{needs}
 use Rattle.verdict_meeting.proofs.numbers.first_landing.Statement.{statement}
 use Rattle.verdict_meeting.proofs.numbers.first_landing.Tie as tie
 

@@ -1,7 +1,6 @@
 -- The rows, one after the other, and the best of the states looked at.
 use Prim.Native.Nat.{_≤_, _-_}
-use mathlib.Core.Path.{_≡_, refl}
-use native.Mathlib.Omega.{arith}
+use mathlib.Core.Path.{_≡_}
 use lib.ListN.{length}
 use Rattle.tables.specs.Words.{steps}
 use Rattle.verdict_meeting.specs.Cells.{cellAt, RowHeld, MovesHeld}

@@ -1,2 +1,0 @@
--- What the inside of reading holds, one step at one node: it need not be believed.
-pub mod Bytes
