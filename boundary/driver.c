@@ -37,25 +37,28 @@ static void fail(const char *words) {
 
 /* ---- Tables and numbers of the script, which are the arguments of the calls. */
 
-enum type { WORDS, BYTES, NUMBER };
+enum type { WORDS, BYTES, IDENTITIES, NUMBER, IDENTITY };
 
-/* A buffer with its length, or a number. A buffer that is only read and one that is written have one type here: where both sides
+/* A buffer with its length, or a number: of a machine's size, or of 32 bits as the next identity is. A buffer that is only read and one that is written have one type here: where both sides
  * are linked, nothing tells them apart. */
 typedef struct argument {
     char letter; /* by which the script knows it */
     enum type type;
     uint16_t *words;
     uint8_t *bytes;
+    uint32_t *ids;
     size_t size; /* the elements in use, or the number itself */
 } argument;
 
 static uint16_t words_of_r[TABLE_WORDS], words_of_p[TABLE_WORDS], words_of_x[TABLE_WORDS], words_of_t[TABLE_WORDS];
 static uint8_t bytes_of_l[TABLE_BYTES], bytes_of_m[TABLE_BYTES], bytes_of_y[TABLE_BYTES];
+static uint32_t ids_of_i[TABLE_WORDS];
 
 static argument arguments[] = {
-    {'r', WORDS, words_of_r, NULL, 0}, {'p', WORDS, words_of_p, NULL, 0}, {'x', WORDS, words_of_x, NULL, 0},
-    {'t', WORDS, words_of_t, NULL, 0}, {'l', BYTES, NULL, bytes_of_l, 0}, {'m', BYTES, NULL, bytes_of_m, 0},
-    {'y', BYTES, NULL, bytes_of_y, 0}, {'u', NUMBER, NULL, NULL, 0},      {'v', NUMBER, NULL, NULL, 0},
+    {'r', WORDS, words_of_r, NULL, NULL, 0}, {'p', WORDS, words_of_p, NULL, NULL, 0},    {'x', WORDS, words_of_x, NULL, NULL, 0},
+    {'t', WORDS, words_of_t, NULL, NULL, 0}, {'l', BYTES, NULL, bytes_of_l, NULL, 0},    {'m', BYTES, NULL, bytes_of_m, NULL, 0},
+    {'y', BYTES, NULL, bytes_of_y, NULL, 0}, {'i', IDENTITIES, NULL, NULL, ids_of_i, 0}, {'u', NUMBER, NULL, NULL, NULL, 0},
+    {'v', NUMBER, NULL, NULL, NULL, 0},      {'n', IDENTITY, NULL, NULL, NULL, 0},
 };
 
 /* The table or number of this letter, or NULL. */
@@ -70,7 +73,7 @@ static argument *argument_of(char letter) {
 
 /* ---- The exported functions. */
 
-#define MOST_PARAMETERS 5
+#define MOST_PARAMETERS 7
 
 /* A parameter: its name in the header, and the letter of what the script passes for it. A buffer and its length are one. */
 typedef struct parameter {
@@ -95,12 +98,13 @@ static sloefertand_answer check_tree(const argument *a) {
 }
 
 static sloefertand_answer check_document(const argument *a) {
-    return sloefertand_check_document(a[0].words, a[0].size, a[1].bytes, a[1].size, a[2].size);
+    return sloefertand_check_document(a[0].words, a[0].size, a[1].bytes, a[1].size, a[2].size, a[3].ids, a[3].size,
+                                      (uint32_t)a[4].size);
 }
 
 static sloefertand_answer read_document(const argument *a) {
-    return sloefertand_read(a[0].words, a[0].size, a[1].words, a[1].size, a[2].bytes, a[2].size, a[3].size, a[4].bytes,
-                            a[4].size);
+    return sloefertand_read(a[0].words, a[0].size, a[1].words, a[1].size, a[2].bytes, a[2].size, a[3].size, a[4].ids, a[4].size,
+                            (uint32_t)a[5].size, a[6].bytes, a[6].size);
 }
 
 static sloefertand_answer plain_reading(const argument *a) {
@@ -108,12 +112,18 @@ static sloefertand_answer plain_reading(const argument *a) {
 }
 
 static sloefertand_answer delete_nodes(const argument *a) {
-    return sloefertand_delete(a[0].words, a[0].size, a[1].words, a[1].size, a[2].bytes, a[2].size, a[3].size);
+    return sloefertand_delete(a[0].words, a[0].size, a[1].words, a[1].size, a[2].bytes, a[2].size, a[3].size, a[4].ids, a[4].size,
+                              (uint32_t)a[5].size);
 }
 
 static sloefertand_answer insert_copies(const argument *a) {
     return sloefertand_insert(a[0].words, a[0].size, a[1].words, a[1].size, a[2].words, a[2].size, a[3].bytes, a[3].size,
-                              a[4].size);
+                              a[4].size, a[5].ids, a[5].size, (uint32_t)a[6].size);
+}
+
+static sloefertand_answer compact(const argument *a) {
+    return sloefertand_compact(a[0].words, a[0].size, a[1].bytes, a[1].size, a[2].size, a[3].ids, a[3].size,
+                               (uint32_t)a[4].size);
 }
 
 static sloefertand_answer delete_verdict(const argument *a) {
@@ -184,11 +194,21 @@ static sloefertand_answer print_plan(const argument *a) {
 static const function functions[] = {
     {"check_pattern", check_pattern, 0, {{"pattern", 'r'}, {"limit", 'u'}, {"table", 'v'}}},
     {"check_tree", check_tree, 0, {{"tree", 'x'}, {"limit", 'u'}, {"table", 'v'}}},
-    {"check_document", check_document, 0, {{"rows", 't'}, {"marks", 'm'}, {"used", 'u'}}},
-    {"read", read_document, 0, {{"pattern", 'r'}, {"rows", 't'}, {"marks", 'm'}, {"used", 'u'}, {"row", 'y'}}},
+    {"check_document", check_document, 0, {{"rows", 't'}, {"marks", 'm'}, {"used", 'u'}, {"ids", 'i'}, {"next", 'n'}}},
+    {"read",
+     read_document,
+     0,
+     {{"pattern", 'r'}, {"rows", 't'}, {"marks", 'm'}, {"used", 'u'}, {"ids", 'i'}, {"next", 'n'}, {"row", 'y'}}},
     {"plain_reading", plain_reading, 0, {{"pattern", 'r'}, {"tree", 'x'}, {"row", 'y'}}},
-    {"delete", delete_nodes, 1, {{"pattern", 'p'}, {"rows", 't'}, {"marks", 'm'}, {"used", 'u'}}},
-    {"insert", insert_copies, 2, {{"pattern", 'p'}, {"tree", 'x'}, {"rows", 't'}, {"marks", 'm'}, {"used", 'u'}}},
+    {"delete",
+     delete_nodes,
+     1,
+     {{"pattern", 'p'}, {"rows", 't'}, {"marks", 'm'}, {"used", 'u'}, {"ids", 'i'}, {"next", 'n'}}},
+    {"insert",
+     insert_copies,
+     3,
+     {{"pattern", 'p'}, {"tree", 'x'}, {"rows", 't'}, {"marks", 'm'}, {"used", 'u'}, {"ids", 'i'}, {"next", 'n'}}},
+    {"compact", compact, 2, {{"rows", 't'}, {"marks", 'm'}, {"used", 'u'}, {"ids", 'i'}, {"next", 'n'}}},
     {"delete_verdict", delete_verdict, 1, {{"read", 'r'}, {"update", 'p'}, {"witness", 't'}}},
     {"insert_verdict", insert_verdict, 1, {{"read", 'r'}, {"update", 'p'}, {"tree", 'x'}, {"witness", 't'}}},
     {"deep_delete_verdict", deep_delete_verdict, 1, {{"read", 'r'}, {"update", 'p'}}},
@@ -320,8 +340,8 @@ static void show_text(size_t bytes) {
     fwrite(y->bytes, 1, bytes < y->size ? bytes : y->size, stdout);
 }
 
-/* Calls a function and shows its answer. A print shows its text too, as does a tree that is written, and an insert sets u to the new
- * used count. */
+/* Calls a function and shows its answer. A print shows its text too, as does a tree that is written, an insert sets u and n to the
+ * new used count and next identity, and a compaction u. */
 static void call(const function *f) {
     called[f - functions] = true;
     sloefertand_answer answer = answer_of(f);
@@ -331,6 +351,10 @@ static void call(const function *f) {
     }
     if (f->call == insert_copies && answer.refusal == 0) {
         argument_of('u')->size = answer.second;
+        argument_of('n')->size = answer.third;
+    }
+    if (f->call == compact && answer.refusal == 0) {
+        argument_of('u')->size = answer.first;
     }
     printf("\n");
     hold_fields(f, answer);
@@ -361,8 +385,8 @@ static size_t number(text *t) {
     const char *from = t->at;
     while (t->at < t->end && '0' <= *t->at && *t->at <= '9') {
         value = value * 10 + (size_t)(*t->at++ - '0');
-        if (UINT16_MAX < value) {
-            fail("a number over 65,535");
+        if (UINT32_MAX < value) {
+            fail("a number over 4,294,967,295");
         }
     }
     if (t->at == from) {
@@ -372,14 +396,14 @@ static size_t number(text *t) {
 }
 
 /* The numbers of the line at hand. */
-static uint16_t numbers[TABLE_BYTES];
+static uint32_t numbers[TABLE_BYTES];
 
 /* One number more; how many there are then. */
 static size_t put(size_t count, size_t value) {
     if (count == TABLE_BYTES) {
         fail("too many numbers");
     }
-    numbers[count] = (uint16_t)value;
+    numbers[count] = (uint32_t)value;
     return count + 1;
 }
 
@@ -417,13 +441,16 @@ static size_t read_numbers(text rest) {
     return count;
 }
 
-/* Fills a table of words, a table of bytes or a number with the numbers of the line. */
+/* Fills a table of words, of bytes or of identities, or a number, with the numbers of the line. */
 static void fill_words(argument *a, size_t count) {
     if (TABLE_WORDS < count) {
         fail("more words than a table has");
     }
     for (size_t i = 0; i < count; i++) {
-        a->words[i] = numbers[i];
+        if (UINT16_MAX < numbers[i]) {
+            fail("a word over 65,535");
+        }
+        a->words[i] = (uint16_t)numbers[i];
     }
     a->size = count;
 }
@@ -436,6 +463,26 @@ static void fill_bytes(argument *a, size_t count) {
         a->bytes[i] = (uint8_t)numbers[i];
     }
     a->size = count;
+}
+
+static void fill_identities(argument *a, size_t count) {
+    if (TABLE_WORDS < count) {
+        fail("more identities than a table has");
+    }
+    for (size_t i = 0; i < count; i++) {
+        a->ids[i] = numbers[i];
+    }
+    a->size = count;
+}
+
+/* Fills the row of identities with 0, 1, 2 and so on, one for each mark, as many as it has room for; their number is next. */
+static void count_identities(size_t marks) {
+    argument *ids = argument_of('i');
+    ids->size = marks < TABLE_WORDS ? marks : TABLE_WORDS;
+    for (size_t i = 0; i < ids->size; i++) {
+        ids->ids[i] = (uint32_t)i;
+    }
+    argument_of('n')->size = marks;
 }
 
 static void set_number(argument *a, size_t count) {
@@ -455,7 +502,11 @@ static void fill(argument *a, text rest) {
     case BYTES:
         fill_bytes(a, count);
         break;
+    case IDENTITIES:
+        fill_identities(a, count);
+        break;
     case NUMBER:
+    case IDENTITY:
         set_number(a, count);
         break;
     }
@@ -481,15 +532,15 @@ static void show(text t) {
     fwrite(t.at, 1, length(t), stdout);
 }
 
-/* Prints the elements in use of table t, m or y. */
+/* Prints the elements in use of table t, m, y or i. */
 static void show_table(text rest) {
-    if (length(rest) != 1 || memchr("tmy", *rest.at, 3) == NULL) {
-        fail("only t, m and y are printed");
+    if (length(rest) != 1 || memchr("tmyi", *rest.at, 4) == NULL) {
+        fail("only t, m, y and i are printed");
     }
     const argument *a = argument_of(*rest.at);
     printf("  %c", a->letter);
     for (size_t i = 0; i < a->size; i++) {
-        printf(" %u", a->type == WORDS ? (unsigned)a->words[i] : (unsigned)a->bytes[i]);
+        printf(" %u", a->type == WORDS ? (unsigned)a->words[i] : a->type == BYTES ? (unsigned)a->bytes[i] : (unsigned)a->ids[i]);
     }
     printf("\n");
 }
@@ -529,6 +580,9 @@ static void obey(text line) {
     argument *a = argument_of(first);
     if (a != NULL) {
         fill(a, line);
+        if (first == 'm') {
+            count_identities(a->size);
+        }
         return;
     }
     switch (first) {

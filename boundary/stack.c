@@ -23,6 +23,7 @@ static uint16_t steps[2 * SLOEFERTAND_STEPS], tree[2 * SLOEFERTAND_TREE_NODES], 
 static uint16_t plain_steps[2 * SLOEFERTAND_PLAIN_STEPS], plain_tree[2 * SLOEFERTAND_PLAIN_NODES];
 static uint16_t rows[2 * SLOEFERTAND_USED_NODES], batch[SLOEFERTAND_BATCH_WORDS];
 static uint8_t marks[SLOEFERTAND_USED_NODES], row[SLOEFERTAND_USED_NODES];
+static uint32_t ids[SLOEFERTAND_USED_NODES];
 static uint16_t witness[SLOEFERTAND_WITNESS_WORDS], plan[SLOEFERTAND_FRAMES], words[SLOEFERTAND_LINE_WORDS];
 static uint8_t line[SLOEFERTAND_LINE_DIGITS], lines[4 * SLOEFERTAND_BATCH_WORDS + SLOEFERTAND_FRAMES], text[SLOEFERTAND_PLAN_BYTES];
 static uint8_t list[5 * SLOEFERTAND_NAMES], pattern_text[6 * SLOEFERTAND_STEPS];
@@ -36,17 +37,26 @@ static sloefertand_answer answer;
 static void nothing(void) { answer.refusal = 0; }
 static void check_pattern(void) { answer = sloefertand_check_pattern(steps, COUNT(steps), SLOEFERTAND_STEPS, 1); }
 static void check_tree(void) { answer = sloefertand_check_tree(tree, COUNT(tree), SLOEFERTAND_TREE_NODES, 3); }
-static void check_document(void) { answer = sloefertand_check_document(rows, COUNT(rows), marks, COUNT(marks), USED); }
+static void check_document(void) {
+    answer = sloefertand_check_document(rows, COUNT(rows), marks, COUNT(marks), USED, ids, COUNT(ids), USED);
+}
 static void reading(void) {
-    answer = sloefertand_read(steps, COUNT(steps), rows, COUNT(rows), marks, COUNT(marks), USED, row, COUNT(row));
+    answer = sloefertand_read(steps, COUNT(steps), rows, COUNT(rows), marks, COUNT(marks), USED, ids, COUNT(ids), USED, row,
+                              COUNT(row));
 }
 static void plain_reading(void) {
     answer = sloefertand_plain_reading(plain_steps, COUNT(plain_steps), plain_tree, COUNT(plain_tree), row, COUNT(row));
 }
 static void inserting(void) {
-    answer = sloefertand_insert(steps, COUNT(steps), node, COUNT(node), rows, COUNT(rows), marks, COUNT(marks), USED);
+    answer = sloefertand_insert(steps, COUNT(steps), node, COUNT(node), rows, COUNT(rows), marks, COUNT(marks), USED, ids,
+                                COUNT(ids), USED);
 }
-static void deleting(void) { answer = sloefertand_delete(steps, COUNT(steps), rows, COUNT(rows), marks, COUNT(marks), USED); }
+static void deleting(void) {
+    answer = sloefertand_delete(steps, COUNT(steps), rows, COUNT(rows), marks, COUNT(marks), USED, ids, COUNT(ids), USED);
+}
+static void compacting(void) {
+    answer = sloefertand_compact(rows, COUNT(rows), marks, COUNT(marks), USED, ids, COUNT(ids), USED);
+}
 static void delete_verdict(void) {
     answer = sloefertand_delete_verdict(steps, COUNT(steps), steps, COUNT(steps), witness, COUNT(witness));
 }
@@ -83,7 +93,7 @@ static void read_tree(void) {
 static void write_tree(void) { answer = sloefertand_write_tree(tree, COUNT(tree), tree_text, COUNT(tree_text)); }
 static void printing(void) { answer = sloefertand_print(lines, lines_bytes, text, COUNT(text)); }
 
-/* Each function with the most bytes that the header says; deleting is last of those on the document, which it empties. */
+/* Each function with the most bytes that the header says; deleting and then compacting are last of those on the document, which they empty. */
 static const struct measured {
     const char *name;
     void (*call)(void);
@@ -96,6 +106,7 @@ static const struct measured {
     {"plain_reading", plain_reading, 2000},
     {"insert", inserting, 47000},
     {"delete", deleting, 47000},
+    {"compact", compacting, 9000},
     {"delete_verdict", delete_verdict, 68000},
     {"insert_verdict", insert_verdict, 68000},
     {"deep_delete_verdict", deep_delete_verdict, 68000},
@@ -198,6 +209,9 @@ int main(void) {
     fill_chain(tree, SLOEFERTAND_TREE_NODES);
     fill_chain(plain_tree, SLOEFERTAND_PLAIN_NODES);
     fill_chain(rows, USED);
+    for (uint32_t i = 0; i < COUNT(ids); i++) {
+        ids[i] = i;
+    }
     fill_batch();
     fill_texts();
     fill_tags();

@@ -1,6 +1,6 @@
 /*
- * Sloefertand for C and C++: reading and updating a tree held in tables, conflict verdicts, the check of another shop's witness,
- * the plan of a batch, patterns as text, trees as tags.
+ * Sloefertand for C and C++: reading, updating and compacting a tree held in tables, conflict verdicts, the check of another shop's
+ * witness, the plan of a batch, patterns as text, trees as tags.
  * Link with libsloefertand.a, which wants the C library's memset and memcpy and, on x86-64, nothing else. The library has no state
  * and no heap, prints nothing and always returns: calls on several threads are fine where no output is shared.
  *
@@ -8,11 +8,22 @@
  * What a call keeps for itself is on the stack. On x86-64 write_tree takes at most 153,000 bytes of it, for 1,024 nodes each below the
  * one before it; print 116,000; plan and plan_in 72,000; the verdicts and the deep verdicts 68,000, for a move of each pair of steps;
  * insert_evidence 58,000; delete_evidence 51,000; insert and delete 47,000; read 43,000, for a set of 64 steps a node; read_tree
- * 9,000, for the labels of open elements; read_pattern and write_pattern 6,000; each other call 2,000. These are measured, by
+ * 9,000, for the labels of open elements; compact 9,000, for the new number of each node; read_pattern and write_pattern 6,000;
+ * each other call 2,000. These are measured, by
  * boundary/stack.c on the longest patterns, trees, batches and lists, and not proved. None grows with the depth of a text.
  *
+ * VERSION 2
+ * Documents have identities (TABLES below), so check_document, read, delete and insert take two parameters more: the row of identities
+ * and the next identity; insert has a value more; compact is new; refusal 16 is new, and 12 is given for identities too. Nothing else
+ * has changed. A caller of version 1 moves so: give each document a row of uint32_t with room for as many nodes as its marks have,
+ * fill it with 0, 1, 2 and so on for the nodes in use, and start with their number as the next identity; pass both in each call; and
+ * behind an insert take `third` as the next identity, as `second` is taken as the number of nodes in use. Answers, rows and marks are
+ * then those of version 1, but that an insert is refused by 16 once 4,294,967,295 identities are given. From then on keep identities, not node
+ * numbers, where something is to be found again after a compaction. The four calls have other symbols in the library than in version 1, so that
+ * what was compiled with the old header does not link, in place of passing too little; the names in C are the same.
+ *
  * BUFFERS
- * A buffer is a pointer and, behind it, its length in elements (uint16_t words or bytes, not sizeof). The caller answers for
+ * A buffer is a pointer and, behind it, its length in elements (uint16_t words, uint32_t identities or bytes, not sizeof). The caller answers for
  * these, for nothing can test them:
  *  - the pointer is not null, also where the length is 0: pass the address of any element there;
  *  - it is aligned for its element;
@@ -25,8 +36,10 @@
  * TABLES
  * A pattern has two words a step, axis and label: axis 0 for the first step, then 1 (child) or 2 (descendant); label 0 stands
  * for any name. A tree has two words a node, parent and label: the root is node 0 with parent 0, every later node has a parent
- * of a smaller number, and no label is 0. A document is a tree's words, a mark byte a node (0 present, 1 removed) and the number
- * of nodes in use. A batch is frames in a row: kind (1 read, 2 insert, 3 delete), number of steps, the steps and, for an insert,
+ * of a smaller number, and no label is 0. A document is a tree's words, a mark byte a node (0 present, 1 removed), the number of
+ * nodes in use, a row of identities and the next identity to give. Identities rise strictly over the nodes in use, and the next one is
+ * greater than all of them. A node keeps its identity as long as it is there; its number changes where a compaction closes up a
+ * gap before it. A batch is frames in a row: kind (1 read, 2 insert, 3 delete), number of steps, the steps and, for an insert,
  * number of nodes and the nodes.
  *
  * REFUSALS
@@ -42,11 +55,12 @@
  *    9  a frame that ends early; in printed text, also words left over on a line    word
  *   10  over 128 frames or 16,384 words                                             word
  *   11  an insert without room                                                      0
- *   12  a wrong used count or mark                                                  0
+ *   12  a wrong used count, mark or identity                                        0
  *   13  a malformed line                                                            line
  *   14  a list of names that breaks (table 8)                                       entry
  *       text that is no pattern's, or no tree's (table 7)                           length of its longest start that fits
  *   15  a name that is not listed; a label without a name                           step
+ *   16  an insert for which there are too few identities (table 5)                  0
  * Steps, nodes, words and entries are counted from 0, lines from 1. The table at fault: 1 read, or a pattern on its own, 2 update,
  * 3 inserted tree, 4 output or room, 5 document or proposed tree, 6 batch, 7 text of a pattern or tree, 8 list of names.
  * In a batch the table is 6, and the place is a word for every number but 7 (table 4, place 0) and 13: its offset from the start of
@@ -65,6 +79,9 @@
 extern "C" {
 #endif
 
+/* The version of this interface, which this header says more of above. */
+#define SLOEFERTAND_VERSION 2
+
 /* The limits.
  * CHANGED: they were 64 steps and 256 nodes, and what follows from these: 2,572 digits and 643 words of a line, 128 words of a pattern,
  * 254 of a witness, 512 of a tree from tags. A caller that sizes its buffers by these names compiles anew and is done. One that does not
@@ -73,6 +90,7 @@ extern "C" {
 #define SLOEFERTAND_STEPS 255u          /* steps of a pattern */
 #define SLOEFERTAND_TREE_NODES 1024u    /* nodes of an inserted tree, of a proposed one, and of one written as tags or read */
 #define SLOEFERTAND_USED_NODES 4096u    /* nodes in use of a document */
+#define SLOEFERTAND_LAST_IDENTITY 4294967295u /* the greatest next identity, so that the greatest one given is one less */
 #define SLOEFERTAND_PLAIN_STEPS 8u      /* steps and nodes of a plain reading */
 #define SLOEFERTAND_PLAIN_NODES 16u
 #define SLOEFERTAND_FRAMES 128u         /* frames and words of a batch */
@@ -115,17 +133,21 @@ sloefertand_answer sloefertand_check_pattern(const uint16_t *pattern, size_t pat
 sloefertand_answer sloefertand_check_tree(const uint16_t *tree, size_t tree_words, size_t limit, size_t table);
 
 /* A document. Refusals, all of table 5: 12 where `used` is 0, over 4,096, over half of the words or over the marks; for each
- * node 4 and 5; 12 for the marks (not 0 or 1, a removed root, a present node below a removed one). Nodes behind `used` are
- * not looked at. */
+ * node 4 and 5; 12 for the marks (not 0 or 1, a removed root, a present node below a removed one); 12 for the identities (fewer than
+ * `used`, one not above that of the node before, one not below `next`). Nodes behind `used` are not looked at. */
+#define sloefertand_check_document sloefertand_v2_check_document
 sloefertand_answer sloefertand_check_document(const uint16_t *rows, size_t rows_words, const uint8_t *marks, size_t marks_bytes,
-                                              size_t used);
+                                              size_t used, const uint32_t *ids, size_t ids_count, uint32_t next);
 
 /* DOCUMENTS */
 
-/* Writes a byte a node in use to `row`: 1 where the pattern selects the node, else 0. No value.
- * Refusals: the document's (12, 4, 5, 12), the pattern's (1, 2, 3 of table 1), 7 where `row` has fewer bytes than `used`. */
+/* Writes a byte a node in use to `row`: 1 where the pattern selects the node, else 0. The identities of what is read stand at the same
+ * places of `ids`. No value.
+ * Refusals: the document's (12, 4, 5, 12, 12), the pattern's (1, 2, 3 of table 1), 7 where `row` has fewer bytes than `used`. */
+#define sloefertand_read sloefertand_v2_read
 sloefertand_answer sloefertand_read(const uint16_t *pattern, size_t pattern_words, const uint16_t *rows, size_t rows_words,
-                                    const uint8_t *marks, size_t marks_bytes, size_t used, uint8_t *row, size_t row_bytes);
+                                    const uint8_t *marks, size_t marks_bytes, size_t used, const uint32_t *ids, size_t ids_count,
+                                    uint32_t next, uint8_t *row, size_t row_bytes);
 
 /* The same for a bare tree of at most 16 nodes and a pattern of at most 8 steps, by a slow and simple way. No value.
  * Refusals: the tree's (1, 2, 4, 5 of table 5), the pattern's (1, 2, 3 of table 1), 7. */
@@ -136,15 +158,29 @@ sloefertand_answer sloefertand_plain_reading(const uint16_t *pattern, size_t pat
  * Deletes that follow one another leave the same marks in every order, and their counts make the same sum; a count alone may
  * differ. The same delete again changes nothing and counts 0.
  * Refusals: the document's, the pattern's (1, 2, 3 of table 2), 6 of table 2. */
+#define sloefertand_delete sloefertand_v2_delete
 sloefertand_answer sloefertand_delete(const uint16_t *pattern, size_t pattern_words, const uint16_t *rows, size_t rows_words,
-                                      uint8_t *marks, size_t marks_bytes, size_t used);
+                                      uint8_t *marks, size_t marks_bytes, size_t used, const uint32_t *ids, size_t ids_count,
+                                      uint32_t next);
 
-/* Writes a copy of `tree` below each node that the pattern selects, in rising order, behind the nodes in use, with mark 0.
- * first: the copies. second: the new number of nodes in use, to be passed from then on.
- * Refusals: the document's, the pattern's (1, 2, 3 of table 2), the tree's (1, 2, 4, 5 of table 3, at most 1,024 nodes), 11 of
- * table 4 where the copies would pass 4,096 nodes, half of the words or the marks. */
+/* Writes a copy of `tree` below each node that the pattern selects, in rising order, behind the nodes in use, with mark 0 and, in the
+ * order written, with the identities from `next` on. first: the copies. second: the new number of nodes in use; third: the new next
+ * identity; both are to be passed from then on.
+ * Refusals: the document's, the pattern's (1, 2, 3 of table 2), the tree's (1, 2, 4, 5 of table 3, at most 1,024 nodes), 16 of
+ * table 5 where the next identity would pass SLOEFERTAND_LAST_IDENTITY, 11 of table 4 where the copies would pass 4,096 nodes, half of
+ * the words, the marks or the identities' row. A compaction may make room then. */
+#define sloefertand_insert sloefertand_v2_insert
 sloefertand_answer sloefertand_insert(const uint16_t *pattern, size_t pattern_words, const uint16_t *tree, size_t tree_words,
-                                      uint16_t *rows, size_t rows_words, uint8_t *marks, size_t marks_bytes, size_t used);
+                                      uint16_t *rows, size_t rows_words, uint8_t *marks, size_t marks_bytes, size_t used,
+                                      uint32_t *ids, size_t ids_count, uint32_t next);
+
+/* Drops the removed nodes and closes up the rest in their order, in place: parents are corrected, each identity stays with its node,
+ * and every read selects the same identities as before. In each row all behind the new number of nodes in use stays as it was. first:
+ * the new number of nodes in use, to be passed from then on. second: how many nodes were dropped, which is the room gained. The next
+ * identity stays. What a compaction does twice it does once. Between the calls of a batch there is none: a plan does not speak of it.
+ * Refusals: the document's. */
+sloefertand_answer sloefertand_compact(uint16_t *rows, size_t rows_words, uint8_t *marks, size_t marks_bytes, size_t used,
+                                       uint32_t *ids, size_t ids_count, uint32_t next);
 
 /* VERDICTS: can the update change what the read selects, in any document at all? */
 
@@ -203,7 +239,7 @@ sloefertand_answer sloefertand_step(const uint16_t *batch, size_t batch_words, s
 /* Writes a word a frame to `plan`: for an update its number among the updates, from 1; for a read its slot, the number of the
  * nearest earlier update to which the deep verdict says yes, or 0. first: the frames. In any order that keeps the updates in sequence
  * and runs each read after the update of its slot and before every update that follows it in the batch, each read gives the same
- * nodes, and the same present nodes below each; the last document is the same, and the same inserts are refused for room.
+ * identities, and the same present ones below each; the last document is the same, and the same inserts are refused, by 16 and by 11.
  * Refusals: 10 for words, then those of each frame in turn, as above; then 7. SLOEFERTAND_FRAMES words are always enough.
  * CHANGED: this call used to ask the node verdict. A caller that uses the nodes' numbers alone gets the old plan, and the old freedom
  * to move reads, from sloefertand_plan_in with SLOEFERTAND_NODE. To do nothing is safe: a slot is never less than it was, and the

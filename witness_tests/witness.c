@@ -85,7 +85,11 @@ static void show_present(const uint16_t *rows, const uint8_t *marks, size_t used
 int main(int count, char **arguments) {
     uint16_t rows[2 * NODES];
     uint8_t marks[NODES] = {0};
+    uint32_t ids[NODES];
     size_t used;
+    for (size_t node = 0; node < NODES; node++) {
+        ids[node] = (uint32_t)node;
+    }
     if (!(count == 4 && strcmp(arguments[2], "delete") == 0) && !(count == 5 && strcmp(arguments[2], "insert") == 0)) {
         fail("usage: witness READ delete PATTERN, or witness READ insert PATTERN PATH");
     }
@@ -103,11 +107,12 @@ int main(int count, char **arguments) {
     show_xpath(read);
     show_tags(rows, used);
     if (count == 4) {
-        first(sloefertand_delete(update.words, update.count, rows, COUNT(rows), marks, COUNT(marks), used));
+        first(sloefertand_delete(update.words, update.count, rows, COUNT(rows), marks, COUNT(marks), used, ids, COUNT(ids),
+                                 (uint32_t)used));
     } else {
         pattern tree = tree_of(arguments[4]);
         sloefertand_answer inserted = sloefertand_insert(update.words, update.count, tree.words, tree.count, rows, COUNT(rows), marks,
-                                                         COUNT(marks), used);
+                                                         COUNT(marks), used, ids, COUNT(ids), (uint32_t)used);
         first(inserted);
         used = inserted.second;
     }

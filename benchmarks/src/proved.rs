@@ -13,6 +13,17 @@ pub struct Answer {
     pub fourth: usize,
 }
 
+/// Identities for as many nodes as a document can use: 0, 1, 2 and so on.
+pub static IDENTITIES: [u32; 4096] = {
+    let mut ids = [0; 4096];
+    let mut node = 0;
+    while node < ids.len() {
+        ids[node] = node as u32;
+        node += 1;
+    }
+    ids
+};
+
 /// The reading of one build of the library, by its name there.
 macro_rules! reading {
     ($library:literal, $function:ident) => {
@@ -26,6 +37,9 @@ macro_rules! reading {
                 marks: *const u8,
                 marks_bytes: usize,
                 used: usize,
+                ids: *const u32,
+                ids_count: usize,
+                next: u32,
                 row: *mut u8,
                 row_bytes: usize,
             ) -> $crate::proved::Answer;
@@ -49,6 +63,9 @@ macro_rules! reading {
                     marks.as_ptr(),
                     marks.len(),
                     used,
+                    $crate::proved::IDENTITIES.as_ptr(),
+                    $crate::proved::IDENTITIES.len(),
+                    $crate::proved::IDENTITIES.len() as u32,
                     row.as_mut_ptr(),
                     row.len(),
                 )
@@ -59,7 +76,7 @@ macro_rules! reading {
 #[cfg(feature = "before")]
 pub(crate) use reading;
 
-reading!("sloefertand", sloefertand_read);
+reading!("sloefertand", sloefertand_v2_read);
 
 extern "C" {
     fn sloefertand_delete_verdict(

@@ -2,6 +2,7 @@
  * writes a witness as XML, reads a tree from XML, checks a partner's witnesses, reads a document, reads and writes patterns as text
  * and meets refusals.
  * examples/run builds and runs it. Names a to e are the labels 1 to 5; the patterns as text have names of their own. */
+#include <inttypes.h>
 #include <stdint.h>
 #include <stdio.h>
 #include <string.h>
@@ -166,8 +167,10 @@ static void show_read(const uint16_t *pattern, size_t pattern_words) {
     /* a over b and c, and c below that b */
     static const uint16_t rows[] = {0, 1, 0, 2, 0, 3, 1, 3};
     static const uint8_t marks[] = {0, 0, 0, 0};
+    static const uint32_t ids[] = {0, 1, 2, 3};
     uint8_t row[COUNT(marks)];
-    if (refused(sloefertand_read(pattern, pattern_words, rows, COUNT(rows), marks, COUNT(marks), COUNT(marks), row, COUNT(row)))) {
+    if (refused(sloefertand_read(pattern, pattern_words, rows, COUNT(rows), marks, COUNT(marks), COUNT(marks), ids, COUNT(ids),
+                                 COUNT(ids), row, COUNT(row)))) {
         return;
     }
     printf("selected:");
@@ -177,6 +180,66 @@ static void show_read(const uint16_t *pattern, size_t pattern_words) {
         }
     }
     printf("\n");
+}
+
+/* A document with room for four nodes: its tables, how many nodes are in use, its identities, and the next one. */
+typedef struct document {
+    uint16_t rows[8];
+    uint8_t marks[4];
+    size_t used;
+    uint32_t ids[4];
+    uint32_t next;
+} document;
+
+/* What a read of a//c selects: by identity, and by the number that the node has now. */
+static void show_identities(const document *d) {
+    uint8_t row[COUNT(d->marks)];
+    if (refused(sloefertand_read(a_any_c, COUNT(a_any_c), d->rows, COUNT(d->rows), d->marks, COUNT(d->marks), d->used, d->ids,
+                                 COUNT(d->ids), d->next, row, COUNT(row)))) {
+        return;
+    }
+    for (size_t node = 0; node < d->used; node++) {
+        if (row[node] == 1) {
+            printf("a//c: identity %" PRIu32 " at node %zu\n", d->ids[node], node);
+        }
+    }
+}
+
+/* Hangs a c under the root, where there is room; the document takes over the new counts. */
+static void show_insert(document *d) {
+    sloefertand_answer inserted =
+        sloefertand_insert(only_a, COUNT(only_a), leaf_c, COUNT(leaf_c), d->rows, COUNT(d->rows), d->marks, COUNT(d->marks), d->used,
+                           d->ids, COUNT(d->ids), d->next);
+    if (refused(inserted)) {
+        return;
+    }
+    d->used = inserted.second;
+    d->next = (uint32_t)inserted.third;
+    printf("insert c at a: %zu copy, next identity %" PRIu32 "\n", inserted.first, d->next);
+}
+
+/* Room back from removed nodes: an insert is refused, a compaction makes room, and what is read keeps its identity. */
+static void show_room_back(void) {
+    /* a over b and c, and c below that b: no room is left */
+    document d = {{0, 1, 0, 2, 1, 3, 0, 3}, {0, 0, 0, 0}, 4, {10, 11, 12, 13}, 14};
+    sloefertand_answer deleted = sloefertand_delete(a_b, COUNT(a_b), d.rows, COUNT(d.rows), d.marks, COUNT(d.marks), d.used, d.ids,
+                                                    COUNT(d.ids), d.next);
+    if (refused(deleted)) {
+        return;
+    }
+    printf("delete a/b: %zu removed\n", deleted.first);
+    show_insert(&d);
+    show_identities(&d);
+    sloefertand_answer closed =
+        sloefertand_compact(d.rows, COUNT(d.rows), d.marks, COUNT(d.marks), d.used, d.ids, COUNT(d.ids), d.next);
+    if (refused(closed)) {
+        return;
+    }
+    d.used = closed.first;
+    printf("compacted: %zu nodes in use, %zu dropped\n", closed.first, closed.second);
+    show_identities(&d);
+    show_insert(&d);
+    show_identities(&d);
 }
 
 /* A planner's names, each ended by a line feed: a name's label is its place, from 1. */
@@ -303,6 +366,9 @@ int main(void) {
 
     printf("\nread a//c of a document\n");
     show_read(a_any_c, COUNT(a_any_c));
+
+    printf("\nroom back from removed nodes\n");
+    show_room_back();
 
     printf("\nread /chart//permit, delete /chart/cell\n");
     show_text_verdict("/chart//permit", "/chart/cell");

@@ -59,7 +59,7 @@ mod sloefertand {
         // a slice is a pointer and a length in elements
         #[link(name = "sloefertand", kind = "static")]
         extern "C" {
-            pub fn sloefertand_read(
+            pub fn sloefertand_v2_read(
                 pattern: *const u16,
                 pattern_words: usize,
                 rows: *const u16,
@@ -67,8 +67,47 @@ mod sloefertand {
                 marks: *const u8,
                 marks_bytes: usize,
                 used: usize,
+                ids: *const u32,
+                ids_count: usize,
+                next: u32,
                 row: *mut u8,
                 row_bytes: usize,
+            ) -> Answer;
+            pub fn sloefertand_v2_delete(
+                pattern: *const u16,
+                pattern_words: usize,
+                rows: *const u16,
+                rows_words: usize,
+                marks: *mut u8,
+                marks_bytes: usize,
+                used: usize,
+                ids: *const u32,
+                ids_count: usize,
+                next: u32,
+            ) -> Answer;
+            pub fn sloefertand_v2_insert(
+                pattern: *const u16,
+                pattern_words: usize,
+                tree: *const u16,
+                tree_words: usize,
+                rows: *mut u16,
+                rows_words: usize,
+                marks: *mut u8,
+                marks_bytes: usize,
+                used: usize,
+                ids: *mut u32,
+                ids_count: usize,
+                next: u32,
+            ) -> Answer;
+            pub fn sloefertand_compact(
+                rows: *mut u16,
+                rows_words: usize,
+                marks: *mut u8,
+                marks_bytes: usize,
+                used: usize,
+                ids: *mut u32,
+                ids_count: usize,
+                next: u32,
             ) -> Answer;
             pub fn sloefertand_delete_verdict(
                 read: *const u16,
@@ -180,28 +219,98 @@ mod sloefertand {
     // Each call below is safe for every input: the exported functions ask nothing of what the buffers hold, and a slice of Rust is
     // never null, always aligned, as long as it says and, where it is `&mut`, overlaps no other.
 
-    /// Writes one byte a used node to `row`: 1 where the pattern selects it, else 0.
-    pub fn read(
-        pattern: &[u16],
-        rows: &[u16],
-        marks: &[u8],
-        used: usize,
-        row: &mut [u8],
-    ) -> Result<(), Refusal> {
-        let answer = unsafe {
-            exported::sloefertand_read(
-                pattern.as_ptr(),
-                pattern.len(),
-                rows.as_ptr(),
-                rows.len(),
-                marks.as_ptr(),
-                marks.len(),
-                used,
-                row.as_mut_ptr(),
-                row.len(),
-            )
-        };
-        answer.values().map(|_| ())
+    /// A document: its tables with room for more nodes, how many are in use, a row of identities, and the next one to give.
+    pub struct Document {
+        pub rows: Vec<u16>,
+        pub marks: Vec<u8>,
+        pub used: usize,
+        pub ids: Vec<u32>,
+        pub next: u32,
+    }
+
+    impl Document {
+        /// Writes one byte a used node to `row`: 1 where the pattern selects it, else 0.
+        pub fn read(&self, pattern: &[u16], row: &mut [u8]) -> Result<(), Refusal> {
+            let answer = unsafe {
+                exported::sloefertand_v2_read(
+                    pattern.as_ptr(),
+                    pattern.len(),
+                    self.rows.as_ptr(),
+                    self.rows.len(),
+                    self.marks.as_ptr(),
+                    self.marks.len(),
+                    self.used,
+                    self.ids.as_ptr(),
+                    self.ids.len(),
+                    self.next,
+                    row.as_mut_ptr(),
+                    row.len(),
+                )
+            };
+            answer.values().map(|_| ())
+        }
+
+        /// Marks what the pattern selects and all below as removed; how many nodes newly.
+        pub fn delete(&mut self, pattern: &[u16]) -> Result<usize, Refusal> {
+            let answer = unsafe {
+                exported::sloefertand_v2_delete(
+                    pattern.as_ptr(),
+                    pattern.len(),
+                    self.rows.as_ptr(),
+                    self.rows.len(),
+                    self.marks.as_mut_ptr(),
+                    self.marks.len(),
+                    self.used,
+                    self.ids.as_ptr(),
+                    self.ids.len(),
+                    self.next,
+                )
+            };
+            answer.values().map(|values| values.first)
+        }
+
+        /// Hangs a copy of the tree under each node that the pattern selects; how many copies.
+        pub fn insert(&mut self, pattern: &[u16], tree: &[u16]) -> Result<usize, Refusal> {
+            let answer = unsafe {
+                exported::sloefertand_v2_insert(
+                    pattern.as_ptr(),
+                    pattern.len(),
+                    tree.as_ptr(),
+                    tree.len(),
+                    self.rows.as_mut_ptr(),
+                    self.rows.len(),
+                    self.marks.as_mut_ptr(),
+                    self.marks.len(),
+                    self.used,
+                    self.ids.as_mut_ptr(),
+                    self.ids.len(),
+                    self.next,
+                )
+            };
+            let values = answer.values()?;
+            self.used = values.second;
+            self.next = values.third as u32;
+            Ok(values.first)
+        }
+
+        /// Drops the removed nodes and closes up the rest; how many were dropped.
+        pub fn compact(&mut self) -> Result<usize, Refusal> {
+            let answer = unsafe {
+                exported::sloefertand_compact(
+                    self.rows.as_mut_ptr(),
+                    self.rows.len(),
+                    self.marks.as_mut_ptr(),
+                    self.marks.len(),
+                    self.used,
+                    self.ids.as_mut_ptr(),
+                    self.ids.len(),
+                    self.next,
+                )
+            };
+            let values = answer.values()?;
+            self.used = values.first;
+            Ok(values.second)
+        }
     }
 
     /// The nodes of the smallest witness, which is written to `witness`; 0 where the read and the delete do not conflict.
@@ -416,7 +525,7 @@ mod sloefertand {
     }
 }
 
-use sloefertand::Refusal;
+use sloefertand::{Document, Refusal};
 
 // A pattern: axis and label of each step.
 const A_B: [u16; 4] = [0, 1, 1, 2]; // a/b
@@ -556,16 +665,65 @@ fn show_evidence(update: &str, node: usize, change: &str) {
 /// The nodes of a document that a pattern selects.
 fn show_read(pattern: &[u16]) -> Result<(), Refusal> {
     // a over b and c, and c below that b
-    let rows = [0, 1, 0, 2, 0, 3, 1, 3];
-    let marks = [0; 4];
+    let document = Document {
+        rows: vec![0, 1, 0, 2, 0, 3, 1, 3],
+        marks: vec![0; 4],
+        used: 4,
+        ids: vec![0, 1, 2, 3],
+        next: 4,
+    };
     let mut row = [0; 4];
-    sloefertand::read(pattern, &rows, &marks, marks.len(), &mut row)?;
+    document.read(pattern, &mut row)?;
     print!("selected:");
     for (node, _) in row.iter().enumerate().filter(|(_, byte)| **byte == 1) {
         print!(" {node}");
     }
     println!();
     Ok(())
+}
+
+/// What a read of a//c selects: by identity, and by the number that the node has now.
+fn show_identities(document: &Document) -> Result<(), Refusal> {
+    let mut row = [0; 4];
+    document.read(&A_ANY_C, &mut row)?;
+    for node in (0..document.used).filter(|&node| row[node] == 1) {
+        println!("a//c: identity {} at node {node}", document.ids[node]);
+    }
+    Ok(())
+}
+
+/// Hangs a c under the root, where there is room.
+fn show_insert(document: &mut Document) {
+    match document.insert(&ONLY_A, &LEAF_C) {
+        Ok(copies) => println!(
+            "insert c at a: {copies} copy, next identity {}",
+            document.next
+        ),
+        Err(refusal) => show_refusal(refusal),
+    }
+}
+
+/// Room back from removed nodes: an insert is refused, a compaction makes room, and what is read keeps its identity.
+fn show_room_back() -> Result<(), Refusal> {
+    // a over b and c, and c below that b: no room is left
+    let mut document = Document {
+        rows: vec![0, 1, 0, 2, 1, 3, 0, 3],
+        marks: vec![0; 4],
+        used: 4,
+        ids: vec![10, 11, 12, 13],
+        next: 14,
+    };
+    println!("delete a/b: {} removed", document.delete(&A_B)?);
+    show_insert(&mut document);
+    show_identities(&document)?;
+    let dropped = document.compact()?;
+    println!(
+        "compacted: {} nodes in use, {dropped} dropped",
+        document.used
+    );
+    show_identities(&document)?;
+    show_insert(&mut document);
+    show_identities(&document)
 }
 
 /// A planner's names, each ended by a line feed: a name's label is its place, from 1.
@@ -687,6 +845,9 @@ fn show_all() -> Result<(), Refusal> {
 
     println!("\nread a//c of a document");
     show_read(&A_ANY_C)?;
+
+    println!("\nroom back from removed nodes");
+    show_room_back()?;
 
     println!("\nread /chart//permit, delete /chart/cell");
     show_text_verdict("/chart//permit", "/chart/cell")?;

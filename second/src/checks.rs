@@ -34,10 +34,16 @@ fn axis(place: usize, word: u16) -> Option<Axis> {
 pub fn tree(words: &[u16], most: usize, table: usize) -> Result<Vec<Row>, Refusal> {
     check_size(words, most, table)?;
     let rows = rows_of(words);
+    check_nodes(&rows, table)?;
+    Ok(rows)
+}
+
+/// Each node in turn has a right parent and then a right label.
+pub fn check_nodes(rows: &[Row], table: usize) -> Result<(), Refusal> {
     for (node, row) in rows.iter().enumerate() {
         check_node(node, row).map_err(|number| refused(number, table, node))?;
     }
-    Ok(rows)
+    Ok(())
 }
 
 /// There are words, two for each step or node, and not too many of these.

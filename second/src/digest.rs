@@ -30,6 +30,19 @@ impl Digest {
         }
     }
 
+    /// Takes an identity, its upper half and then its lower.
+    pub fn take_id(&mut self, id: u32) {
+        self.take((id >> 16) as usize);
+        self.take((id & 0xFFFF) as usize);
+    }
+
+    /// Takes each identity of a row.
+    pub fn take_ids(&mut self, row: &[u32]) {
+        for &id in row {
+            self.take_id(id);
+        }
+    }
+
     /// Takes a refusal's three numbers.
     pub fn take_refusal(&mut self, refusal: Refusal) {
         self.take(REFUSAL_BASE + refusal.number);
@@ -58,5 +71,14 @@ mod tests {
         assert_eq!(of(&[0]), "00000001");
         assert_eq!(of(&[0, 0]), "00010040");
         assert_ne!(of(&[1, 2]), of(&[2, 1]));
+    }
+
+    #[test]
+    fn an_identity_is_taken_by_halves() {
+        let mut whole = Digest::default();
+        whole.take_ids(&[0x0001_FFFE, 7]);
+        let mut halves = Digest::default();
+        halves.take_all(&[1u16, 0xFFFE, 0, 7]);
+        assert_eq!(whole, halves);
     }
 }

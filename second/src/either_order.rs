@@ -134,6 +134,8 @@ mod tests {
             words: vec![0, 1, 0, 2, 1, 3],
             marks: vec![0, 0, 0],
             used: 3,
+            ids: vec![0, 1, 2],
+            next: 3,
         };
         let (above, below) = (pattern("a/b"), pattern("a//c"));
         let one = run(&document, &above, &below);

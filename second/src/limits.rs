@@ -23,3 +23,6 @@ pub const DOCUMENT_NODES: usize = 4_096;
 
 /// A line has at most this many digits.
 pub const LINE_DIGITS: usize = 10_244;
+
+/// The next identity to give is at most this.
+pub const IDENTITIES: usize = 4_294_967_295;

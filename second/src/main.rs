@@ -1,4 +1,4 @@
-//! Sloefertand's second program: eleven tables, found by trying all small trees, making all
+//! Sloefertand's second program: twelve tables, found by trying all small trees, making all
 //! small texts, and drawing some long patterns and some large trees.
 
 mod batch;
@@ -6,18 +6,23 @@ mod buffers;
 mod carrying;
 mod checks;
 mod classes;
+mod compaction;
 mod counts;
 mod damage;
 mod damaged_proposals;
 mod deep_tags;
 mod digest;
 mod document;
+mod document_calls;
 mod documents;
 mod draws;
 mod either_order;
 mod evidence;
 #[cfg(test)]
 mod examples;
+mod id_edges;
+mod id_orders;
+mod identities;
 mod large_proposals;
 mod letters;
 mod limits;
@@ -67,13 +72,15 @@ use std::ffi::OsString;
 use std::io::{self, BufWriter, Write};
 use std::process::ExitCode;
 
-const USAGE: &str =
-    "usage: second [pairs | documents | damage | plans | texts | deletes | reads | tags | lines | evidence | tags-read | counts]";
+const USAGE: &str = "usage: second [test_documents | test_texts | test_small | pairs | documents | damage | plans | texts | deletes | reads | tags | lines | evidence | tags-read | identities | counts]";
 
 /// What is asked for.
 #[derive(Clone, Copy, PartialEq, Eq)]
 enum Wanted {
     All,
+    OnDocuments,
+    OnTexts,
+    Others,
     Pairs,
     Documents,
     Damage,
@@ -85,6 +92,7 @@ enum Wanted {
     Lines,
     Evidence,
     TagsRead,
+    Identities,
     Counts,
 }
 
@@ -93,6 +101,9 @@ fn wanted(arguments: &[OsString]) -> Option<Wanted> {
     match arguments {
         [] => Some(Wanted::All),
         [one] => match one.to_str()? {
+            "test_documents" => Some(Wanted::OnDocuments),
+            "test_texts" => Some(Wanted::OnTexts),
+            "test_small" => Some(Wanted::Others),
             "pairs" => Some(Wanted::Pairs),
             "documents" => Some(Wanted::Documents),
             "damage" => Some(Wanted::Damage),
@@ -104,6 +115,7 @@ fn wanted(arguments: &[OsString]) -> Option<Wanted> {
             "lines" => Some(Wanted::Lines),
             "evidence" => Some(Wanted::Evidence),
             "tags-read" => Some(Wanted::TagsRead),
+            "identities" => Some(Wanted::Identities),
             "counts" => Some(Wanted::Counts),
             _ => None,
         },
@@ -111,20 +123,39 @@ fn wanted(arguments: &[OsString]) -> Option<Wanted> {
     }
 }
 
-/// Writes the eleven tables in order and gives all their counts.
-fn write_all(numbering: &Numbering, out: &mut dyn Write) -> io::Result<counts::Counts> {
-    let pairs = Pairs::tried(numbering);
-    let mut counts = pairs.write(out)?;
-    counts.extend(documents::write(numbering, out)?);
-    counts.extend(damage::write(out)?);
-    counts.extend(plans::write(numbering, &pairs, out)?);
-    counts.extend(texts::write(out)?);
+/// Writes the tables over documents, which `test_documents` prints too, and gives their counts.
+fn write_on_documents(numbering: &Numbering, out: &mut dyn Write) -> io::Result<counts::Counts> {
+    let mut counts = documents::write(numbering, out)?;
     counts.extend(either_order::write(numbering, out)?);
     counts.extend(long_reads::write(out)?);
+    counts.extend(identities::write(out)?);
+    Ok(counts)
+}
+
+/// Writes the tables over texts, which `test_texts` prints too, and gives their counts.
+fn write_on_texts(out: &mut dyn Write) -> io::Result<counts::Counts> {
+    let mut counts = texts::write(out)?;
     counts.extend(tree_tags::write(out)?);
+    counts.extend(tags_read::write(out)?);
+    Ok(counts)
+}
+
+/// Writes the other tables, which `test_small` prints too, and gives their counts.
+fn write_others(numbering: &Numbering, out: &mut dyn Write) -> io::Result<counts::Counts> {
+    let pairs = Pairs::tried(numbering);
+    let mut counts = pairs.write(out)?;
+    counts.extend(damage::write(out)?);
+    counts.extend(plans::write(numbering, &pairs, out)?);
     counts.extend(lines::write(out)?);
     counts.extend(proposals::write(numbering, out)?);
-    counts.extend(tags_read::write(out)?);
+    Ok(counts)
+}
+
+/// Writes all tables, by these groups, and gives all their counts.
+fn write_all(numbering: &Numbering, out: &mut dyn Write) -> io::Result<counts::Counts> {
+    let mut counts = write_on_documents(numbering, out)?;
+    counts.extend(write_on_texts(out)?);
+    counts.extend(write_others(numbering, out)?);
     Ok(counts)
 }
 
@@ -134,6 +165,15 @@ fn run(wanted: Wanted, out: &mut dyn Write) -> io::Result<()> {
     match wanted {
         Wanted::All => {
             write_all(&numbering, out)?;
+        }
+        Wanted::OnDocuments => {
+            write_on_documents(&numbering, out)?;
+        }
+        Wanted::OnTexts => {
+            write_on_texts(out)?;
+        }
+        Wanted::Others => {
+            write_others(&numbering, out)?;
         }
         Wanted::Pairs => {
             Pairs::tried(&numbering).write(out)?;
@@ -167,6 +207,9 @@ fn run(wanted: Wanted, out: &mut dyn Write) -> io::Result<()> {
         }
         Wanted::TagsRead => {
             tags_read::write(out)?;
+        }
+        Wanted::Identities => {
+            identities::write(out)?;
         }
         Wanted::Counts => counts::write(&write_all(&numbering, &mut io::sink())?, out)?,
     }

@@ -39,9 +39,11 @@ pub mod number {
     pub const FRAME_ENDS: usize = 9;
     pub const TOO_MANY: usize = 10;
     pub const NO_ROOM: usize = 11;
+    pub const WRONG_DOCUMENT: usize = 12;
     pub const WRONG_LINE: usize = 13;
     pub const WRONG_TEXT: usize = 14;
     pub const NO_NAME: usize = 15;
+    pub const NO_IDENTITY: usize = 16;
 }
 
 /// A refusal.

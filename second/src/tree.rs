@@ -31,8 +31,8 @@ pub struct Node {
     pub removed: bool,
 }
 
-/// A tree. A node's number is its place in the list of nodes; it is the node's
-/// identity and is never given to another node, as nothing leaves the list.
+/// A tree. A node's number is its place in the list of nodes and is never given to
+/// another node, as nothing leaves the list.
 #[derive(Clone, Debug)]
 pub struct Tree {
     nodes: Vec<Node>,

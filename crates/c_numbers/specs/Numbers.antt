@@ -5,6 +5,8 @@ use Rattle.outcomes.specs.declared.updates.Deleted.{Deleted}
 use Rattle.outcomes.specs.declared.updates.Deleted.the-variants as deleted
 use Rattle.outcomes.specs.declared.updates.Inserted.{Inserted}
 use Rattle.outcomes.specs.declared.updates.Inserted.the-variants as inserted
+use Rattle.outcomes.specs.declared.updates.Compacted.{Compacted}
+use Rattle.outcomes.specs.declared.updates.Compacted.the-variants as compacted
 use Rattle.outcomes.specs.declared.verdicts.Verdict.{Verdict}
 use Rattle.outcomes.specs.declared.verdicts.Verdict.the-variants as verdict
 use Rattle.outcomes.specs.declared.verdicts.Deeply.{Deeply}
@@ -34,10 +36,15 @@ abbrev pub ofDeleted : Deleted → Answer
 ofDeleted (deleted.Removed n) = giving n 0 0 0
 ofDeleted (deleted.Refused r) = refusing r
 
--- an insert: the copies, and the new used count
+-- an insert: the copies, the new used count and the new next identity
 abbrev pub ofInserted : Inserted → Answer
-ofInserted (inserted.Copied copies used) = giving copies used 0 0
+ofInserted (inserted.Copied copies used next) = giving copies used next 0
 ofInserted (inserted.Refused r) = refusing r
+
+-- a compaction: the new used count, and how many nodes were dropped
+abbrev pub ofCompacted : Compacted → Answer
+ofCompacted (compacted.Closed used dropped) = giving used dropped 0 0
+ofCompacted (compacted.Refused r) = refusing r
 
 -- a verdict: the witness's node count, 0 for none
 abbrev pub ofVerdict : Verdict → Answer

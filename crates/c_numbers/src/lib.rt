@@ -7,6 +7,7 @@ use outcomes::plans::Planned;
 use outcomes::texts::Parsed;
 use outcomes::texts::Printed;
 use outcomes::texts::Spelled;
+use outcomes::updates::Compacted;
 use outcomes::updates::Deleted;
 use outcomes::updates::Inserted;
 use outcomes::verdicts::Deeply;
@@ -14,7 +15,7 @@ use outcomes::verdicts::Evidence;
 use outcomes::verdicts::Verdict;
 use tables::refusal::Checked;
 ghost use mathlib.Core.Path.{_≡_};
-ghost use Rattle.c_numbers.specs.Numbers.{ofChecked, ofDeleted, ofInserted, ofVerdict, ofDeeply, ofEvidence, ofStepped, ofPlanned, ofParsed, ofSpelled, ofPrinted};
+ghost use Rattle.c_numbers.specs.Numbers.{ofChecked, ofDeleted, ofInserted, ofCompacted, ofVerdict, ofDeeply, ofEvidence, ofStepped, ofPlanned, ofParsed, ofSpelled, ofPrinted};
 
 // A check.
 pub fn checked(c: Checked) -> Answer
@@ -36,13 +37,23 @@ pub fn deleted(d: Deleted) -> Answer
     }
 }
 
-// An insert: the copies, and the new used count.
+// An insert: the copies, the new used count and the new next identity.
 pub fn inserted(i: Inserted) -> Answer
     ensures { λ a. ⌜ a ≡ ofInserted i ⌝ }
 {
     match i {
-        Inserted::Copied(copies, used) => giving(copies, used, 0, 0),
+        Inserted::Copied(copies, used, next) => giving(copies, used, next, 0),
         Inserted::Refused(r) => refusing(r),
+    }
+}
+
+// A compaction: the new used count, and how many nodes were dropped.
+pub fn compacted(c: Compacted) -> Answer
+    ensures { λ a. ⌜ a ≡ ofCompacted c ⌝ }
+{
+    match c {
+        Compacted::Closed(used, dropped) => giving(used, dropped, 0, 0),
+        Compacted::Refused(r) => refusing(r),
     }
 }
 

@@ -20,7 +20,7 @@ use Rattle.check_document.proofs.Counts.{ZeroWhere, zero-start, zero-mo
 
 -- one refusal for every test: a walk that is not fine answers it
 module _ (right : ℕ → Bool) (r : Refusal) where
-  each-same : (v k : ℕ) → (each (λ i. test (right i) (Refused r)) v k ≡ Fine → ⊥) → each (λ i. test (right i) (Refused r)) v k ≡ Refused r
+  pub each-same : (v k : ℕ) → (each (λ i. test (right i) (Refused r)) v k ≡ Fine → ⊥) → each (λ i. test (right i) (Refused r)) v k ≡ Refused r
   unfolding each
   each-same v zero bad = absurd (bad refl)
   each-same v (suc k) bad = go (right v) (each-same (suc v) k) bad

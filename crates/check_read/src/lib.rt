@@ -8,7 +8,7 @@ ghost use mathlib.Core.Path.{_≡_};
 ghost use Rattle.tables.specs.Limits.{stepLimit};
 ghost use Rattle.tables.specs.Documents.{doc};
 ghost use Rattle.tables.specs.Checks.{_then_, patternCheck, outputCheck};
-ghost use Rattle.check_read.specs.Readable.{readCheck};
+ghost use Rattle.check_read.specs.Readable.{readTablesCheck};
 
 // The pattern's refusals, then 7 for a row of fewer bytes than used nodes.
 fn asked(p: &[u16], table: usize, used: usize, bytes: usize) -> Checked
@@ -29,7 +29,7 @@ pub fn checked(
     used: usize,
     bytes: usize,
 ) -> Checked
-    ensures { λ r. ⌜ r ≡ readCheck (now (p .entry)) table (doc (now (rows .entry)) (now (marks .entry)) used) bytes ⌝ }
+    ensures { λ r. ⌜ r ≡ readTablesCheck (now (p .entry)) table (doc (now (rows .entry)) (now (marks .entry)) used) bytes ⌝ }
 {
     match document(rows, marks, used) {
         Checked::Fine => asked(p, table, used, bytes),

@@ -9,20 +9,22 @@ use lib.ListN.{length, take, drop}
 use lib.Seq.{drop-at}
 use Rattle.tables.specs.Limits.{treeLimit}
 use Rattle.tables.specs.Words.{Bits16}
-use Rattle.tables.specs.Documents.{Doc, bare, Sound}
-use Rattle.tables.specs.Checks.{documentCheck}
+use Rattle.tables.specs.Documents.{bare, Sound}
 use Rattle.tables.specs.declared.refusal.Checked.the-variants.{Fine}
 use Rattle.tables.proofs.Accepted.{never}
-use Rattle.tables.proofs.Soundness.{accepted-document, accepted-tree}
-use Rattle.doc_read.proofs.Laws.{read-selects}
+use Rattle.tables.proofs.Soundness.{accepted-tree}
 use Rattle.selection.specs.Embeddings.{Selects}
+use Rattle.identities.specs.Documents.{Document, document}
+use Rattle.identities.proofs.Checks.{identified-exactly, whole-sound}
+use Rattle.identities.proofs.Updates.{deleted-ids, deleted-next, after-identified}
+use Rattle.identities.proofs.Showing.{identity-one, below-identities}
+use Rattle.identities.proofs.Conflict.{after-tables}
 use Rattle.selection.specs.Operations.{copies}
 use Rattle.selection.proofs.Selecting.{selecting}
 use Rattle.doc_updates.specs.Updating.{deleteCheck}
 use Rattle.doc_updates.proofs.Accepted.{delete-document, delete-pattern, insert-document, insert-pattern, insert-tree}
-use Rattle.doc_updates.proofs.Deletes.{delete-fine, delete-doc, delete-count, delete-behind, delete-length}
-use Rattle.doc_updates.proofs.Inserts.{insert-fine, insert-number, insert-doc, insert-words-behind, insert-marks-behind, insert-rows-length, insert-marks-length}
-use Rattle.doc_updates.proofs.Keeping.{Accepted}
+use Rattle.doc_updates.proofs.Deletes.{removed-tables, delete-doc, delete-count, delete-behind, delete-length}
+use Rattle.doc_updates.proofs.Inserts.{insert-fine, insert-number, insert-tables, insert-doc, insert-words-behind, insert-marks-behind, insert-rows-length, insert-marks-length}
 use Rattle.conflict.specs.Conflict.{Update, UpdateBits, delete, insert, pattern, Conflict, SmallestWitness, Chain}
 use Rattle.conflict.proofs.Deletes.{lost-selected}
 use Rattle.conflict.proofs.Chained.{decided-chain}
@@ -45,12 +47,12 @@ use Rattle.batch_check.proofs.Frames.{accepted-fits}
 use Rattle.batch_mode.proofs.Branches.{check-exactly}
 use Rattle.batch_plan.proofs.Laws.{same-slot}
 use Rattle.order_calls.proofs.Callable.{accepted-callable}
-use Rattle.order_calls.proofs.Running.{run-has, run-works, run-room, run-some}
-use Rattle.selection.proofs.Showing.{below-nodes}
+use Rattle.order_calls.proofs.Running.{run-has, run-works, run-identities, run-room, run-some}
+use Rattle.order_calls.proofs.Accepting.{AcceptedDocument, whole-accepted}
 use Rattle.order_calls.proofs.Demand.{Shown, nodes-shown, below-shown}
 use Rattle.order_calls.proofs.Same.{shown-runs}
 use Rattle.order_deletes.specs.Deletes.{abc}
-use Rattle.order_deletes.proofs.Calls.{calls-marks, calls-count, calls-refusals, calls-some}
+use Rattle.order_deletes.proofs.Calls.{call-fine, calls-marks, calls-count, calls-refusals, calls-some}
 use Rattle.order_deletes.proofs.Orders.{orders-marks, orders-total, either-marks, either-total, second-works, first-fine, made-before, again}
 use Rattle.order_deletes.proofs.Example.{above-first, below-first, not-each}
 use Rattle.batch_walk.proofs.Laws.{refused-stays, over-stays}
@@ -89,8 +91,9 @@ use Rattle.demands.proofs.Texts.{lists-place, list-lines, texts, texts-
 use Rattle.demands.proofs.Tags.{tags-enough, tags-reached, witness-text}
 use Rattle.demands.proofs.TagsIn.{tags, tags-place, read-means, read-in-order, read-sound, read-again, written-back, written-same}
 use Rattle.demands.proofs.Evidence.{evidence-exactly, first-changed, own-accepted, accepted-conflict}
-use Rattle.demands.proofs.Updates.{deleted-by, all-deleted-by, inserted-by}
-use Rattle.demands.proofs.Agreeing.{readings-agree}
+use Rattle.demands.proofs.Updates.{deleted-by, all-deleted-by, inserted-by, named-by}
+use Rattle.demands.proofs.Identities.{differences, by-identities, same-delete, ids-behind}
+use Rattle.demands.proofs.Agreeing.{read-rows, readings-agree}
 use Rattle.demands.proofs.Keeping.{keeps-order, order-keeps}
 use Rattle.demands.proofs.Example.{reads, deletes, clear, clear-deep, start, moved-plan, moved-keeps, slots-differ}
 use Rattle.demands.proofs.Modes.{named-node, named-deep, deeper, not-nodes}
@@ -105,6 +108,7 @@ demand-one =
       reads = orders.reads;
       deletes = orders.deletes;
       inserts = orders.inserts;
+      compactions = orders.compactions;
       verdicts = orders.verdicts;
       deeps = orders.deeps;
       evidences = orders.evidences;
@@ -117,6 +121,7 @@ demand-one =
       patterns-out = orders.patterns-out;
       trees-out = orders.trees-out;
       trees-in = orders.trees-in;
+      identities = identified-exactly;
       lists = λ l. (list-right l, right-list l);
       lists-place = lists-place;
       texts = texts;
@@ -161,41 +166,50 @@ demand-two =
       fewest = λ r u before out n h. h .fewest;
       bound = λ r u before out n h. h .bound;
       chain = chained;
+      one-node = λ d right v w. identity-one right;
+      still-right = after-identified;
+      differences = differences;
+      by-identities = by-identities;
       selection = λ p d pattern sound. selecting pattern sound;
       deletes = λ p d pattern sound. deleted-by p d pattern sound;
-      inserts = λ p x d pattern tree sound. (copies p d, inserted-by p x d pattern tree sound);
-      sound = λ d words fine. accepted-document d fine words;
-      reading = λ p table d before row words h. read-selects h words;
+      inserts = λ p x d pattern tree sound. (copies p (d .tables), inserted-by p x (d .tables) pattern tree sound, named-by p x d);
+      tables = after-tables;
+      names-stay = λ p d. (deleted-ids p d, deleted-next p d);
+      sound = λ d words fine. whole-sound d fine words;
+      reading = λ p d before row words h. read-rows h words;
       deleting = λ p d marks n words h.
-          let fine = delete-fine p d h in
-          rw (delete-doc p d h) (deleted-by p d (delete-pattern p d fine) (accepted-document d (delete-document p d fine) words));
-      inserting = λ p x d rows marks n used words tags h.
+          let fine = call-fine h in
+          rw (delete-doc p (d .tables) (removed-tables h)) (deleted-by p (d .tables) (delete-pattern p d fine) (whole-sound d (delete-document p d fine) words .tables));
+      inserting = λ p x d rows marks ids n used next words tags h.
           let fine = insert-fine p x d h in
-          rw (insert-doc p x d h, insert-number p x d h)
-          (inserted-by p x d (insert-pattern p x d fine) (accepted-tree x treeLimit 3 (insert-tree p x d fine) tags) (accepted-document d (insert-document p x d fine) words));
-      same-delete = λ p d marks n h. delete-doc p d h;
-      same-insert = λ p x d rows marks n used h. insert-doc p x d h;
-      removals = λ p d marks n h. delete-count p d h;
+          let tree = accepted-tree x treeLimit 3 (insert-tree p x d fine) tags in
+          let sound = whole-sound d (insert-document p x d fine) words .tables in (
+            rw (insert-tables p x d h, insert-number p x d h) (inserted-by p x (d .tables) (insert-pattern p x d fine) tree sound),
+            rw (insert-doc p x d h, insert-number p x d h) (named-by p x d),
+          );
+      same-delete = same-delete;
+      same-insert = λ p x d rows marks ids n used next h. insert-doc p x d h;
+      removals = λ p d marks n h. delete-count p (d .tables) (removed-tables h);
     }
 
-accepted-words : {d : Doc} → Bits16 (d .rows) → documentCheck d ≡ Fine → Accepted d
-accepted-words {d} words fine = record { sound = accepted-document d fine words; fine = fine }
-
-started : {b : List ℕ} {d : Doc} → Start b d → Accepted d
-started s = accepted-words (s .rows) (s .document)
+started : {b : List ℕ} {d : Document} → Start b d → AcceptedDocument d
+started s = whole-accepted (s .rows) (s .document)
 
 -- one proof for both modes
-module _ {Related : List ℕ → Update → Type 0} {Alike : List ℕ → Doc → Doc → Type 0} (shown : Shown Related Alike)
+module _ {Related : List ℕ → Update → Type 0} {Showing : List ℕ → Document → Document → Type 0} (shown : Shown Related Showing)
+    {Alike : List ℕ → Document → Document → Type 0} (tells : (r : List ℕ) (d e : Document) → Showing r d e → Alike r d e)
     {test : List ℕ → Update → Bool} (decides : DecidedBy Related test) (none : test reads (delete deletes) ≡ false) where
   demand-three : DemandThree Related Alike
   demand-three =
       record {
         slots = λ b before plan n k r h at. h .2 .words at;
         orders = λ b before plan n h d s o keeps one other last end run runs.
-            shown-runs shown decides (accepted-fits b (s .words) (s .batch)) (accepted-callable b (s .batch)) (started s)
+            shown-runs shown tells decides (accepted-fits b (s .words) (s .batch)) (accepted-callable b (s .batch)) (started s)
             (keeps-order decides b before plan n (s .words) h keeps) run runs;
         works = λ b d s o calls last run i k e answer at f frame.
             run-works (accepted-fits b (s .words) (s .batch)) (accepted-callable b (s .batch)) (started s) run at frame;
+        identities = λ b d s o calls last run i k e answer at p x frame.
+            run-identities (accepted-fits b (s .words) (s .batch)) (accepted-callable b (s .batch)) (started s) run at frame;
         room = λ b d s o calls last run i k e answer at p x frame.
             run-room (accepted-fits b (s .words) (s .batch)) (accepted-callable b (s .batch)) (started s) run at frame;
         own-keeps = λ b before plan n words h. order-keeps decides b before plan n words h (own-order test (batchOf b));
@@ -206,24 +220,26 @@ module _ {Related : List ℕ → Update → Type 0} {Alike : List ℕ → Doc �
         calls = λ b o d last calls run i k at. run-has run at;
       }
 
--- nodes by conflicts; nodes and what is present below them by deep conflicts
+-- identities by conflicts, these and what is present below them by deep conflicts; node numbers likewise
 pub in-both-modes : InBothModes
 in-both-modes =
     record {
-      node = demand-three nodes-shown conflicting-decides clear;
-      deep = demand-three below-shown deeply-decides clear-deep;
+      node = demand-three nodes-shown (λ r d e same. same .identities) conflicting-decides clear;
+      deep = demand-three below-shown (λ r d e same. same .identities) deeply-decides clear-deep;
+      node-numbers = demand-three nodes-shown (λ r d e same. same .nodes) conflicting-decides clear;
+      deep-numbers = demand-three below-shown (λ r d e same. same .nodes) deeply-decides clear-deep;
       named-node = named-node;
       named-deep = named-deep;
       line-node = node-named;
       line-deep = deep-named;
       deeper = deeper;
-      also-nodes = λ r d e same. below-nodes same;
+      also-nodes = λ r d e same. below-identities same;
       not-nodes = not-nodes;
       slots-differ = slots-differ;
     }
 
-accepted-first : (p : List ℕ) (d : Doc) → Bits16 (d .rows) → deleteCheck p d ≡ Fine → Accepted d
-accepted-first p d words fine = accepted-words words (delete-document p d fine)
+accepted-first : (p : List ℕ) (d : Document) → Bits16 (d .tables .rows) → deleteCheck p d ≡ Fine → AcceptedDocument d
+accepted-first p d words fine = whole-accepted words (delete-document p d fine)
 
 pub either-order : EitherOrder
 unfolding small
@@ -236,14 +252,14 @@ either-order =
       made-before = λ ps d words answers last calls k p at fine after answer. made-before (accepted-first p d words fine) calls at fine;
       above-first = above-first;
       below-first = below-first;
-      not-each = not-each {Kind = λ d. Bits16 (d .rows)} (words-of (abc .rows) refl);
-      refusals = λ ps d words fine answers last. calls-refusals (accepted-words words fine);
+      not-each = not-each {Kind = λ d. Bits16 (d .tables .rows)} (words-of (abc .tables .rows) refl);
+      refusals = λ ps d words fine answers last. calls-refusals (whole-accepted words fine);
       removed = λ ps d words fine answers last calls.
-          let accepted = accepted-words words fine in
+          let accepted = whole-accepted words fine in
           rw (calls-marks accepted calls) (all-deleted-by ps d accepted);
       removals = λ ps d answers last. calls-count;
       orders = λ ps qs same d words fine one other last end calls others.
-          let accepted = accepted-words words fine in
+          let accepted = whole-accepted words fine in
           (orders-marks same accepted calls others, orders-total same accepted calls others);
       calls = calls-some;
     }
@@ -322,8 +338,9 @@ besides =
       renumbered-text = λ t u sound sound′ old. same-text t u sound sound′;
       clear-stays = λ r u before after h. h .kept;
       witness-behind = λ r u before after n h. (h .long, h .behind);
-      marks-behind = λ p d marks n h. (delete-length p d h, delete-behind p d h);
-      tables-behind = λ p x d rows marks n used h. (insert-rows-length p x d h, insert-marks-length p x d h, insert-words-behind p x d h, insert-marks-behind p x d h);
+      marks-behind = λ p d marks n h. let done = removed-tables h in (delete-length p (d .tables) done, delete-behind p (d .tables) done);
+      ids-behind = ids-behind;
+      tables-behind = λ p x d rows marks ids n used next h. (insert-rows-length p x d h, insert-marks-length p x d h, insert-words-behind p x d h, insert-marks-behind p x d h);
       plan-behind = λ m b before after n h. (h .2 .kept, (λ i l. h .2 .behind i (rw (← h .1) l)));
       words-behind = λ s line before after n h. behind (wordsOf s) before (h .1 ∙ sym (length-wordsOf s)) (h .2);
       digits-behind = λ ws before after n h. behind (lineOf ws) before (h .1 ∙ sym (length-lineOf ws)) (h .2);

@@ -5,7 +5,7 @@ use mathlib.Core.Bool.{Bool, true, false}
 use mathlib.Core.List.{List, [], _∷_}
 use native.Mathlib.Omega.{arith}
 use lib.ListN.{getD}
-use Rattle.tables.specs.Documents.{doc}
+use Rattle.identities.specs.Checks.{identityRight, identityCheck, identitiesCheck, wholeCheck}
 use Rattle.tables.specs.Checks.{patternCheck, sizeCheck, each, axisCheck, axisRight, nodeCheck, parentRight, usedRight, usedCheck, markRight, markCheck, documentCheck, outputCheck}
 use Rattle.tables.specs.Words.{Bits16}
 use Rattle.tables.specs.declared.refusal.Checked.the-variants.{Fine}
@@ -26,7 +26,7 @@ use Rattle.batch_check.specs.Batches.{updateOf, meaning, framesFrom, batchOf, c
 use Rattle.batch_plan.specs.Batch.{SlotIs, WordIs, PlanOf}
 use Rattle.outcomes.specs.declared.plans.Planned.the-variants as planned
 use Rattle.batch_plan.proofs.Laws.{accepted-slot}
-use Rattle.demands.specs.Demands.{Keeps, Start, example, below-read, only-root}
+use Rattle.demands.specs.Demands.{Keeps, Start, example, b-under-a, below-read, only-root}
 use Rattle.demands.proofs.Keeping.{order-keeps}
 
 abbrev pub deletes : List ℕ
@@ -85,9 +85,9 @@ module _ {Related : List ℕ → Update → Type 0} {test : List ℕ → Update 
   pub moved-keeps : Keeps (1 ∷ 0 ∷ []) (batchOf example) (1 ∷ 0 ∷ [])
   moved-keeps = order-keeps decides example (0 ∷ 0 ∷ []) (1 ∷ 0 ∷ []) 2 words moved-plan (rw frames-are (read-first test (delete deletes) reads none))
 
-pub start : Start example (doc (0 ∷ 1 ∷ 0 ∷ 2 ∷ []) (0 ∷ 0 ∷ []) 2)
-unfolding small planCheck documentCheck usedCheck usedRight each nodeCheck parentRight markCheck markRight
-start = record { words = words; batch = then-first (batchCheck example) _ accepted; rows = words-of (0 ∷ 1 ∷ 0 ∷ 2 ∷ []) refl; document = refl }
+pub start : Start example b-under-a
+unfolding small planCheck wholeCheck identitiesCheck identityCheck identityRight documentCheck usedCheck usedRight each nodeCheck parentRight markCheck markRight
+start = record { words = words; batch = then-first (batchCheck example) _ accepted; rows = words-of (b-under-a .tables .rows) refl; document = refl }
 
 -- the second example: a delete below the node that is read
 below-are : batchOf below-read ≡ update (delete deletes) ∷ read only-root ∷ []

@@ -7,6 +7,8 @@ pub mod Tags
 pub mod TagsIn
 pub mod Evidence
 pub mod Updates
+pub mod Identities
+pub mod Compaction
 pub mod Agreeing
 pub mod Keeping
 pub mod Example

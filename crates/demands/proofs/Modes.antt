@@ -1,25 +1,17 @@
 -- Demand 3 over what a read is shown, by a relation that is decided; and how the two modes stand to each other.
 use Prim.Native.Nat.{ℕ, _<_, _≤_}
-use mathlib.Core.Path.{_≡_, refl, sym}
-use mathlib.Core.Bool.{Bool, false}
 use mathlib.Core.List.{List}
 use mathlib.Core.Logic.{_↔_, inl}
 use native.Mathlib.Decide.{decLt}
 use native.Mathlib.Omega.{arith}
-use lib.ListN.{length}
-use Rattle.tables.specs.Documents.{Doc, Sound}
-use Rattle.tables.specs.Words.{Bits16}
-use Rattle.tables.specs.declared.refusal.Checked.the-variants.{Fine}
-use Rattle.selection.specs.Showing.{SameNodes, SameBelow}
-use Rattle.selection.proofs.Showing.{nodes-not-below}
+use Rattle.identities.specs.Documents.{Document, SoundDocument}
+use Rattle.identities.specs.Showing.{SameIdentities, SameIdentitiesBelow}
+use Rattle.identities.proofs.Numbered.{identities-not-below}
 use Rattle.conflict.specs.Conflict.{Update, Conflict, Deep}
 use Rattle.order.specs.Frames.{Frame}
-use Rattle.order.specs.Fitting.{DecidedBy}
 use Rattle.batch_mode.specs.Modes.{modeCheck, modeOf}
-use Rattle.batch_check.specs.Batches.{planCheck}
 use Rattle.outcomes.specs.declared.plans.Planned.{Planned}
-use Rattle.batch_plan.specs.Batch.{PlanIn, PlanOf, Plan, planInCheck, SlotIs}
-use Rattle.batch_plan.proofs.Laws.{plan-order}
+use Rattle.batch_plan.specs.Batch.{PlanIn, PlanOf, Plan, SlotIs}
 
 -- a mode by its number
 pub named-node : (b before after : List ℕ) (answer : Planned) → PlanIn 1 b before after answer ↔ PlanOf Conflict b before after answer
@@ -40,7 +32,7 @@ deeper b k r v w s t = go (decLt 0 v)
         omega (arith, t .greatest (found .at) (found .earlier) (inl (found .related)), found .numbered)
     go (no none) = omega arith
 
-pub not-nodes : ((r : List ℕ) (d e : Doc) → Sound d → Sound e → SameNodes r d e → SameBelow r d e) → ⊥
+pub not-nodes : ((r : List ℕ) (d e : Document) → SoundDocument d → SoundDocument e → SameIdentities r d e → SameIdentitiesBelow r d e) → ⊥
 not-nodes all =
-    let found = nodes-not-below in
+    let found = identities-not-below in
     found .6 (all (found .0) (found .1) (found .2) (found .3) (found .4) (found .5))

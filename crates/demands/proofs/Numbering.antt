@@ -15,6 +15,8 @@ use Rattle.tables.specs.Checks.{refuse, _then_, test, each, sizeCheck, axisChec
 use Rattle.batch_parts.specs.Parts.{inSteps, inNodes, countCheck, stepsCheck, nodesCheck}
 use Rattle.batch_frame.specs.Frames.{restCheck, frameCheck, endOf}
 use Rattle.check_plain.specs.Bare.{plainCheck}
+use Rattle.identities.specs.Documents.{Document}
+use Rattle.identities.specs.Checks.{identityCheck, identitiesCheck, wholeCheck}
 use Rattle.check_read.specs.Readable.{readCheck}
 use Rattle.doc_updates.specs.Updating as updating
 use Rattle.conflict.specs.Conflict.{Update, delete, insert}
@@ -43,7 +45,7 @@ pub record OnlyNumbered (c : Checked) : Type 0 where
 fine : OnlyNumbered Fine
 fine = record { numbered = λ r e. let z : _≡_ {A = ℕ} 0 1 = cc in absurd (omega arith) }
 
-refusal : (n table place : ℕ) → T (leb 1 n) → T (leb n 15) → OnlyNumbered (refuse n table place)
+refusal : (n table place : ℕ) → T (leb 1 n) → T (leb n 16) → OnlyNumbered (refuse n table place)
 refusal n table place h k =
     record { numbered = λ r e. let q : n ≡ r .number = cc in record { least = rw (← q) (lit≤ h); most = rw (← q) (lit≤ k) } }
 
@@ -51,7 +53,7 @@ pub ten : OnlyNumbered (refuse 10 6 batchLimit)
 ten = refusal 10 6 batchLimit tt tt
 
 -- checks made of parts
-tested : (b : Bool) (n table place : ℕ) → T (leb 1 n) → T (leb n 15) → OnlyNumbered (test b (refuse n table place))
+tested : (b : Bool) (n table place : ℕ) → T (leb 1 n) → T (leb n 16) → OnlyNumbered (test b (refuse n table place))
 tested true n table place h k = fine
 tested false n table place h k = refusal n table place h k
 
@@ -80,9 +82,17 @@ pub trees : (t : List ℕ) (limit table : ℕ) → OnlyNumbered (treeCheck t lim
 unfolding treeCheck
 trees t limit table = search (chained, walked, sizes, nodes-of)
 
-pub documents : (d : Doc) → OnlyNumbered (documentCheck d)
+tables-of : (d : Doc) → OnlyNumbered (documentCheck d)
 unfolding documentCheck usedCheck markCheck
-documents d = search (chained, tested, walked, nodes-of)
+tables-of d = search (chained, tested, walked, nodes-of)
+
+identities-of : (ids : List ℕ) (used next : ℕ) → OnlyNumbered (identitiesCheck ids used next)
+unfolding identitiesCheck identityCheck
+identities-of ids used next = search (chained, tested, walked)
+
+pub documents : (d : Document) → OnlyNumbered (wholeCheck d)
+unfolding wholeCheck
+documents d = search (chained, tables-of, identities-of)
 
 pub outputs : (wanted have : ℕ) → OnlyNumbered (outputCheck wanted have)
 unfolding outputCheck
@@ -92,17 +102,17 @@ pub plains : (p t : List ℕ) (bytes : ℕ) → OnlyNumbered (plainCheck p t byt
 unfolding plainCheck
 plains p t bytes = search (chained, trees, patterns, outputs)
 
-pub reads : (p : List ℕ) (table : ℕ) (d : Doc) (bytes : ℕ) → OnlyNumbered (readCheck p table d bytes)
+pub reads : (p : List ℕ) (d : Document) (bytes : ℕ) → OnlyNumbered (readCheck p d bytes)
 unfolding readCheck
-reads p table d bytes = search (chained, documents, patterns, outputs)
+reads p d bytes = search (chained, documents, patterns, outputs)
 
-pub deletes : (p : List ℕ) (d : Doc) → OnlyNumbered (updating.deleteCheck p d)
+pub deletes : (p : List ℕ) (d : Document) → OnlyNumbered (updating.deleteCheck p d)
 unfolding updating.deleteCheck
 deletes p d = search (chained, documents, patterns, tested)
 
-pub inserts : (p x : List ℕ) (d : Doc) → OnlyNumbered (updating.insertCheck p x d)
+pub inserts : (p x : List ℕ) (d : Document) → OnlyNumbered (updating.insertCheck p x d)
 unfolding updating.insertCheck
-inserts p x d = search (chained, documents, patterns, trees, tested)
+inserts p x d = search (chained, documents, patterns, trees, tested) depth 6
 
 both-patterns : (r p : List ℕ) → OnlyNumbered (patternsCheck r p)
 unfolding patternsCheck

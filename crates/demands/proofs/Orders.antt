@@ -6,15 +6,16 @@ use mathlib.Core.List.{List}
 use lib.Dec.{ltb, leb}
 use lib.ListN.{length}
 use Rattle.tables.specs.Limits.{batchLimit}
-use Rattle.tables.specs.Documents.{Doc}
-use Rattle.tables.specs.Checks.{_then_, test, refuse, outputCheck, patternCheck, treeCheck, documentCheck}
+use Rattle.identities.specs.Documents.{Document}
+use Rattle.identities.specs.Checks.{wholeCheck}
+use Rattle.tables.specs.Checks.{_then_, test, refuse, outputCheck, patternCheck, treeCheck}
 use Rattle.tables.specs.declared.refusal.Refusal.{Refusal}
 use Rattle.tables.specs.declared.refusal.Checked.{Checked}
 use Rattle.tables.specs.declared.refusal.Checked.the-variants.{Fine, Refused}
 use Rattle.tables.proofs.Accepted.{never}
 use Rattle.c_answer.specs.declared.answer.Answer.{Answer}
 use Rattle.c_answer.specs.Answers.{refusing, Told}
-use Rattle.c_numbers.specs.Numbers.{ofChecked, ofDeleted, ofInserted, ofVerdict, ofDeeply, ofEvidence, ofStepped, ofPlanned, ofParsed, ofSpelled, ofPrinted}
+use Rattle.c_numbers.specs.Numbers.{ofChecked, ofDeleted, ofInserted, ofCompacted, ofVerdict, ofDeeply, ofEvidence, ofStepped, ofPlanned, ofParsed, ofSpelled, ofPrinted}
 use Rattle.check_plain.specs.Bare.{plainCheck}
 use Rattle.doc_plain.specs.Plain.{PlainRead}
 use Rattle.check_read.specs.Readable.{readCheck}
@@ -23,6 +24,10 @@ use Rattle.doc_updates.specs.Updating.{deleteCheck, insertCheck, Delete, Insert
 use Rattle.doc_updates.proofs.Deletes.{delete-same}
 use Rattle.doc_updates.proofs.Inserts.{insert-same}
 use Rattle.doc_updates.proofs.Accepted.{removed-fine, kept-told, copied-fine, refused-told}
+use Rattle.doc_compact.specs.Compacting.{Compact}
+use Rattle.doc_compact.proofs.Laws.{closed-fine, compact-told, compact-same}
+use Rattle.outcomes.specs.declared.updates.Compacted.{Compacted}
+use Rattle.outcomes.specs.declared.updates.Compacted.the-variants as compacted
 use Rattle.outcomes.specs.declared.updates.Deleted.{Deleted}
 use Rattle.outcomes.specs.declared.updates.Deleted.the-variants as deleted
 use Rattle.outcomes.specs.declared.updates.Inserted.{Inserted}
@@ -92,33 +97,41 @@ patterns p limit table = checks (patternCheck p limit table) (numbering.patterns
 pub trees : (t : List ℕ) (limit table : ℕ) → ByOrder (treeCheck t limit table) (ofChecked (treeCheck t limit table)) Nothing
 trees t limit table = checks (treeCheck t limit table) (numbering.trees t limit table) (λ why e. tt)
 
-pub documents : (d : Doc) → ByOrder (documentCheck d) (ofChecked (documentCheck d)) Nothing
-documents d = checks (documentCheck d) (numbering.documents d) (λ why e. tt)
+pub documents : (d : Document) → ByOrder (wholeCheck d) (ofChecked (wholeCheck d)) Nothing
+documents d = checks (wholeCheck d) (numbering.documents d) (λ why e. tt)
 
 -- documents
 pub plains : (p t before after : List ℕ) (a : Answer) → Told ofChecked (PlainRead p t before after) a → ByOrder (plainCheck p t (length before)) a (after ≡ before)
 plains p t before after a =
     told (λ x h. rw (← h .answered) (checks x (rw (h .answered) (numbering.plains p t (length before))) (λ why e. rw e at (h .row))))
 
-pub reads : (p : List ℕ) (table : ℕ) (d : Doc) (before after : List ℕ) (a : Answer) → Told ofChecked (Read p table d before after) a
-    → ByOrder (readCheck p table d (length before)) a (after ≡ before)
-reads p table d before after a =
-    told (λ x h. rw (← h .answered) (checks x (rw (h .answered) (numbering.reads p table d (length before))) (λ why e. rw e at (h .row))))
+pub reads : (p : List ℕ) (d : Document) (before after : List ℕ) (a : Answer) → Told ofChecked (Read p d before after) a
+    → ByOrder (readCheck p d (length before)) a (after ≡ before)
+reads p d before after a =
+    told (λ x h. rw (← h .answered) (checks x (rw (h .answered) (numbering.reads p d (length before))) (λ why e. rw e at (h .row))))
 
-pub deletes : (p : List ℕ) (d : Doc) (before after : List ℕ) (a : Answer) → Told ofDeleted (Delete p d before after) a → ByOrder (deleteCheck p d) a (after ≡ before)
+pub deletes : (p : List ℕ) (d : Document) (before after : List ℕ) (a : Answer) → Told ofDeleted (Delete p d before after) a → ByOrder (deleteCheck p d) a (after ≡ before)
 deletes p d before after a = told one
   where
     one : (x : Deleted) → Delete p d before after x → ByOrder (deleteCheck p d) (ofDeleted x) (after ≡ before)
     one (deleted.Removed n) h = was-fine (removed-fine _ _ (h .answered)) refl
     one (deleted.Refused why) h = was-refused (numbering.deletes p d) (kept-told _ _ (h .answered)) (delete-same h)
 
-pub inserts : (p x : List ℕ) (d : Doc) (rows₀ marks₀ rows₁ marks₁ : List ℕ) (a : Answer) → Told ofInserted (Insert p x d rows₀ marks₀ rows₁ marks₁) a
-    → ByOrder (insertCheck p x d) a ((rows₁ ≡ rows₀) × (marks₁ ≡ marks₀))
-inserts p x d rows₀ marks₀ rows₁ marks₁ a = told one
+pub inserts : (p x : List ℕ) (d : Document) (rows₀ marks₀ ids₀ rows₁ marks₁ ids₁ : List ℕ) (a : Answer) → Told ofInserted (Insert p x d rows₀ marks₀ ids₀ rows₁ marks₁ ids₁) a
+    → ByOrder (insertCheck p x d) a ((rows₁ ≡ rows₀) × (marks₁ ≡ marks₀) × (ids₁ ≡ ids₀))
+inserts p x d rows₀ marks₀ ids₀ rows₁ marks₁ ids₁ a = told one
   where
-    one : (y : Inserted) → Insert p x d rows₀ marks₀ rows₁ marks₁ y → ByOrder (insertCheck p x d) (ofInserted y) ((rows₁ ≡ rows₀) × (marks₁ ≡ marks₀))
-    one (inserted.Copied n used) h = was-fine (copied-fine _ _ _ (sym (h .answered))) refl
-    one (inserted.Refused why) h = was-refused (numbering.inserts p x d) (refused-told _ _ _ (sym (h .answered))) (insert-same h)
+    one : (y : Inserted) → Insert p x d rows₀ marks₀ ids₀ rows₁ marks₁ ids₁ y → ByOrder (insertCheck p x d) (ofInserted y) ((rows₁ ≡ rows₀) × (marks₁ ≡ marks₀) × (ids₁ ≡ ids₀))
+    one (inserted.Copied n used next) h = was-fine (copied-fine _ _ _ _ (sym (h .answered))) refl
+    one (inserted.Refused why) h = was-refused (numbering.inserts p x d) (refused-told _ _ _ _ (sym (h .answered))) (insert-same h)
+
+pub compactions : (d : Document) (rows₀ marks₀ ids₀ rows₁ marks₁ ids₁ : List ℕ) (a : Answer) → Told ofCompacted (Compact d rows₀ marks₀ ids₀ rows₁ marks₁ ids₁) a
+    → ByOrder (wholeCheck d) a ((rows₁ ≡ rows₀) × (marks₁ ≡ marks₀) × (ids₁ ≡ ids₀))
+compactions d rows₀ marks₀ ids₀ rows₁ marks₁ ids₁ a = told one
+  where
+    one : (x : Compacted) → Compact d rows₀ marks₀ ids₀ rows₁ marks₁ ids₁ x → ByOrder (wholeCheck d) (ofCompacted x) ((rows₁ ≡ rows₀) × (marks₁ ≡ marks₀) × (ids₁ ≡ ids₀))
+    one (compacted.Closed n gone) h = was-fine (closed-fine (wholeCheck d) _ _ (h .answered)) refl
+    one (compacted.Refused why) h = was-refused (numbering.documents d) (compact-told h) (compact-same h)
 
 -- verdicts
 pub verdicts : (r : List ℕ) (u : Update) (before after : List ℕ) (a : Answer) → Told ofVerdict (NodeVerdict r u before after) a

@@ -1,5 +1,5 @@
 -- By embeddings: a delete removes exactly what its pattern covers, and deletes one after another what one of their patterns does; an insert puts a copy
--- under exactly the nodes that its pattern selects.
+-- under exactly the nodes that its pattern selects, and gives its nodes the next identities.
 use Prim.Native.Nat.{ℕ, _+_, _*_, _<_, _≤_}
 use mathlib.Core.Path.{_≡_, refl, sym, _∙_}
 use mathlib.Core.Bool.{Bool, true, false, _&&_, cond}
@@ -11,7 +11,7 @@ use native.Mathlib.Omega.{arith}
 use lib.ListN.{getD}
 use Rattle.tables.specs.Words.{nodes}
 use Rattle.tables.specs.Patterns.{Pattern}
-use Rattle.tables.specs.Documents.{Doc, doc, bare, mark, present, Sound}
+use Rattle.tables.specs.Documents.{Doc, bare, mark, present, Sound}
 use Rattle.selection.specs.Lists.{count}
 use Rattle.selection.specs.Ways.{up, selected}
 use Rattle.selection.specs.Operations.{hits, struck, deleted, points, copies, inserted}
@@ -25,11 +25,15 @@ use Rattle.selection.proofs.Deleting.{deleted-rows, deleted-used, deleted-mark,
 use Rattle.selection.proofs.Grafting.{copied-below}
 use Rattle.selection.proofs.Inserting.{copies-count, point-selected, selected-number, selected-point, inserted-used, inserted-word-behind, inserted-mark-behind, inserted-kept, inserted-copy}
 use Rattle.doc_updates.proofs.Accepted.{delete-pattern}
-use Rattle.doc_updates.proofs.Keeping.{Accepted}
+use Rattle.identities.specs.Documents.{Document}
+use Rattle.identities.specs.Updates.{insertedIn}
+use Rattle.identities.proofs.Updates.{inserted-tables, inserted-next, old-identity, copy-identity, identity-behind}
+use Rattle.order_calls.proofs.Accepting.{AcceptedDocument}
+use Rattle.order_deletes.specs.Deletes.{withMarks}
 use Rattle.order_deletes.specs.Together.{anyHits, together}
 use Rattle.order_deletes.proofs.Together.{together-mark, together-behind, any-hit, hit-any}
 use Rattle.order_deletes.proofs.Calls.{own-check}
-use Rattle.demands.specs.Updates.{Covered, RemovedAt, DeletedBy, CoveredByOne, AllDeletedBy, InsertedBy}
+use Rattle.demands.specs.Updates.{Covered, RemovedAt, DeletedBy, CoveredByOne, AllDeletedBy, InsertedBy, NamedBy}
 
 -- marks that are 1 where a test holds of a present node, and else as before: what the test means is removed
 removed-at : (Gone : ℕ → Type 0) (gone : ℕ → Bool) {d e : Doc} → e .rows ≡ d .rows → e .used ≡ d .used →
@@ -70,28 +74,28 @@ module _ (p : List ℕ) (d : Doc) (pattern : Pattern p) (sound : Sound d) where
       (λ v here. (hits-covered v here, covered-hits v (present-used d v here)))
 
 -- deletes at all of these remove what one of them covers, of those that are accepted
-module _ (ps : List (List ℕ)) (d : Doc) (accepted : Accepted d) where
-  covered-any : (v : ℕ) → v < d .used → CoveredByOne ps d v → anyHits ps (up (d .rows) v) ≡ true
+module _ (ps : List (List ℕ)) (d : Document) (accepted : AcceptedDocument d) where
+  covered-any : (v : ℕ) → v < d .tables .used → CoveredByOne ps d v → anyHits ps (up (d .tables .rows) v) ≡ true
   covered-any v h c =
-      hit-any (up (d .rows) v) (c .at) (sym (own-check (c .pattern) accepted) ∙ c .accepted)
-      (covered-hits (c .pattern) d (delete-pattern (c .pattern) d (c .accepted)) (accepted .sound) v h (c .covers))
+      hit-any (up (d .tables .rows) v) (c .at) (sym (own-check (c .pattern) accepted) ∙ c .accepted)
+      (covered-hits (c .pattern) (d .tables) (delete-pattern (c .pattern) d (c .accepted)) (accepted .tables .sound) v h (c .covers))
 
-  any-covered : (v : ℕ) → present d v ≡ true → anyHits ps (up (d .rows) v) ≡ true → CoveredByOne ps d v
+  any-covered : (v : ℕ) → present (d .tables) v ≡ true → anyHits ps (up (d .tables .rows) v) ≡ true → CoveredByOne ps d v
   any-covered v here e =
-      let by = any-hit ps (up (d .rows) v) e in
+      let by = any-hit ps (up (d .tables .rows) v) e in
       let fine = own-check (by .pattern) accepted ∙ by .fine in
       record {
         place = by .place;
         pattern = by .pattern;
         at = by .at;
         accepted = fine;
-        covers = hits-covered (by .pattern) d (delete-pattern (by .pattern) d fine) (accepted .sound) v here (by .hit);
+        covers = hits-covered (by .pattern) (d .tables) (delete-pattern (by .pattern) d fine) (accepted .tables .sound) v here (by .hit);
       }
 
-  pub all-deleted-by : AllDeletedBy ps d (doc (d .rows) (together ps d) (d .used))
+  pub all-deleted-by : AllDeletedBy ps d (withMarks d (together ps (d .tables)) .tables)
   all-deleted-by =
-      removed-at (CoveredByOne ps d) (λ v. anyHits ps (up (d .rows) v)) refl refl (together-mark ps d) (together-behind ps d)
-      (λ v here. (any-covered v here, covered-any v (present-used d v here)))
+      removed-at (CoveredByOne ps d) (λ v. anyHits ps (up (d .tables .rows) v)) refl refl (together-mark ps (d .tables)) (together-behind ps (d .tables))
+      (λ v here. (any-covered v here, covered-any v (present-used (d .tables) v here)))
 
 -- the points of an insert: each is selected, each selected node is one of them, and they rise
 module _ (p x : List ℕ) (d : Doc) (pattern : Pattern p) (tree : Sound (bare x)) (sound : Sound d) where
@@ -123,3 +127,12 @@ module _ (p x : List ℕ) (d : Doc) (pattern : Pattern p) (tree : Sound (bare x)
         words-behind = λ i h. inserted-word-behind p x d i (rw (inserted-used p x d) at h);
         marks-behind = λ v h. inserted-mark-behind p x d v (rw (inserted-used p x d) at h);
       }
+
+-- the identities after an insert
+pub named-by : (p x : List ℕ) (d : Document) → NamedBy x d (insertedIn p x d) (copies p (d .tables))
+named-by p x d = record {
+  old = old-identity p x d;
+  new = copy-identity p x d;
+  behind = λ v h. identity-behind p x d v (rw (inserted-tables p x d, inserted-used p x (d .tables)) at h);
+  next = inserted-next p x d;
+}

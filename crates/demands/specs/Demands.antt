@@ -4,20 +4,21 @@
 --   DemandTwo     the verdict and its witness; reading, deleting and inserting, by embeddings
 --   DemandThree   the plan; a batch run call by call, in any order that keeps the plan; in each of the two modes (InBothModes)
 --   EitherOrder   deletes one after another, in any order
+--   RoomBack      a compaction: what it leaves, and that later calls go on as they would have without it
 --   OtherLimits   installations with other limits: what is kept, and what an older one answers to a longer frame
 --   Besides       what else the documents say of the calls: deep verdicts, proposed trees, plans, the two readings, the walker, patterns as text,
 --                 trees as tags there and back, what stays, the program's two numbers, P1 to P15
 --
--- A call is named by its promise: Read, Delete, Insert, NodeVerdict, DeepVerdict, Checks, Plan and so on, each over what is lent to it before and after.
+-- A call is named by its promise: Read, Delete, Insert, Compact, NodeVerdict, DeepVerdict, Checks, Plan and so on, each over what is lent to it before and after.
 -- Told says that an exported function returns the numbers of an answer that meets such a promise. Demands/Names.antt says where each name of this page
 -- is defined, and which function makes each promise.
 mod Names
 use Names.*
 
--- one of the numbered refusals: 1 to 13 of document 01, 14 and 15 of document 02
+-- one of the numbered refusals: 1 to 13 of document 01, 14 to 16 of document 02
 pub record Numbered (r : Refusal) : Type 0 where
   pub least : 1 ≤ r .number
-  pub most : r .number ≤ 15
+  pub most : r .number ≤ 16
 
 -- the numbers a are by an order of checks: no refusal where that is fine; else its refusal, with number, table and place, which is one of the
 -- numbered ones, and what was lent is kept
@@ -38,13 +39,15 @@ pub record WrongText (Right : List ℕ → Type 0) (s : List ℕ) (n : ℕ) : Ty
 pub record DemandOne : Type 0 where
   pub patterns : (p : List ℕ) (limit table : ℕ) → ByOrder (patternCheck p limit table) (ofChecked (patternCheck p limit table)) Nothing
   pub trees : (t : List ℕ) (limit table : ℕ) → ByOrder (treeCheck t limit table) (ofChecked (treeCheck t limit table)) Nothing
-  pub documents : (d : Doc) → ByOrder (documentCheck d) (ofChecked (documentCheck d)) Nothing
+  pub documents : (d : Document) → ByOrder (wholeCheck d) (ofChecked (wholeCheck d)) Nothing
   pub plain : (p t before after : List ℕ) (a : Answer) → Told ofChecked (PlainRead p t before after) a → ByOrder (plainCheck p t (length before)) a (after ≡ before)
-  pub reads : (p : List ℕ) (table : ℕ) (d : Doc) (before after : List ℕ) (a : Answer) → Told ofChecked (Read p table d before after) a →
-      ByOrder (readCheck p table d (length before)) a (after ≡ before)
-  pub deletes : (p : List ℕ) (d : Doc) (before after : List ℕ) (a : Answer) → Told ofDeleted (Delete p d before after) a → ByOrder (deleteCheck p d) a (after ≡ before)
-  pub inserts : (p x : List ℕ) (d : Doc) (rows₀ marks₀ rows₁ marks₁ : List ℕ) (a : Answer) → Told ofInserted (Insert p x d rows₀ marks₀ rows₁ marks₁) a →
-      ByOrder (insertCheck p x d) a ((rows₁ ≡ rows₀) × (marks₁ ≡ marks₀))
+  pub reads : (p : List ℕ) (d : Document) (before after : List ℕ) (a : Answer) → Told ofChecked (Read p d before after) a →
+      ByOrder (readCheck p d (length before)) a (after ≡ before)
+  pub deletes : (p : List ℕ) (d : Document) (before after : List ℕ) (a : Answer) → Told ofDeleted (Delete p d before after) a → ByOrder (deleteCheck p d) a (after ≡ before)
+  pub inserts : (p x : List ℕ) (d : Document) (rows₀ marks₀ ids₀ rows₁ marks₁ ids₁ : List ℕ) (a : Answer) → Told ofInserted (Insert p x d rows₀ marks₀ ids₀ rows₁ marks₁ ids₁) a →
+      ByOrder (insertCheck p x d) a ((rows₁ ≡ rows₀) × (marks₁ ≡ marks₀) × (ids₁ ≡ ids₀))
+  pub compactions : (d : Document) (rows₀ marks₀ ids₀ rows₁ marks₁ ids₁ : List ℕ) (a : Answer) → Told ofCompacted (Compact d rows₀ marks₀ ids₀ rows₁ marks₁ ids₁) a →
+      ByOrder (wholeCheck d) a ((rows₁ ≡ rows₀) × (marks₁ ≡ marks₀) × (ids₁ ≡ ids₀))
   pub verdicts : (r : List ℕ) (u : Update) (before after : List ℕ) (a : Answer) → Told ofVerdict (NodeVerdict r u before after) a →
       ByOrder (verdictCheck r u (length before)) a (after ≡ before)
   pub deeps : (r : List ℕ) (u : Update) (a : Answer) → Told ofDeeply (DeepVerdict r u) a → ByOrder (deepCheck r u) a Nothing
@@ -60,6 +63,8 @@ pub record DemandOne : Type 0 where
   pub patterns-out : (l p before after : List ℕ) (a : Answer) → Told ofPrinted (WriteText l p before after) a → ByOrder (writeTextCheck l p (length before)) a (after ≡ before)
   pub trees-out : (t before after : List ℕ) (a : Answer) → Told ofPrinted (WriteTree t before after) a → ByOrder (writeTreeCheck t (length before)) a (after ≡ before)
   pub trees-in : (s before after : List ℕ) (a : Answer) → Told ofParsed (ReadTree s before after) a → ByOrder (readTreeCheck s (length before)) a (after ≡ before)
+  -- identities are refused exactly if their row is shorter than the used count, they are out of order, or not all are below the next one
+  pub identities : (d : Document) → (identitiesCheck (d .ids) (d .tables .used) (d .next) ≡ Fine) ↔ Identified d
   -- a list is refused exactly if it is no list of names, by the first entry at which it breaks; a text of a pattern, and one of a tree, exactly if it is no
   -- right text, by the length of its longest start that some right text has
   pub lists : (l : List ℕ) → (listCheck l ≡ Fine) ↔ NameList l
@@ -97,21 +102,33 @@ pub record DemandTwo : Type 0 where
   pub bound : (r : List ℕ) (u : Update) (before after : List ℕ) (n : ℕ) → NodeVerdict r u before after (verdict.Conflict n) → n ≤ steps r + steps (pattern u) - 1
   -- a smallest witness is always a chain
   pub chain : (r : List ℕ) (u : Update) → Bits16 r → UpdateBits u → deepCheck r u ≡ Fine → (t : List ℕ) → SmallestWitness r u t → Chain t
-  -- what a difference is made of: on every sound document selection is by embeddings, and so is what an update does
+  -- an identity is that of one node, before an update and after it
+  pub one-node : (d : Document) → Identified d → (v w : ℕ) → v < d .tables .used → w < d .tables .used → identity d v ≡ identity d w → v ≡ w
+  pub still-right : (u : Update) (d : Document) → Identified d → Identified (after-in u d)
+  -- by identities: on every sound document the read's sets of identities differ exactly if its sets of nodes do, so a conflict by identities is a conflict
+  pub differences : (r : List ℕ) (u : Update) → Bits16 r → UpdateBits u → deepCheck r u ≡ Fine → (d : Document) → SoundDocument d → DiffersIn r u d ↔ Differs r u (d .tables)
+  pub by-identities : (r : List ℕ) (u : Update) → Bits16 r → UpdateBits u → deepCheck r u ≡ Fine → ConflictIn r u ↔ Conflict r u
+  -- what a difference is made of: on every sound document selection is by embeddings, and so is what an update does; a delete leaves every identity
   pub selection : (p : List ℕ) (d : Doc) → Pattern p → Sound d → (v : ℕ) → (selected p d v ≡ true) ↔ Selects p d v
   pub deletes : (p : List ℕ) (d : Doc) → Pattern p → Sound d → DeletedBy p d (after-update (delete p) d)
-  pub inserts : (p x : List ℕ) (d : Doc) → Pattern p → Sound (bare x) → Sound d → (n : ℕ) × InsertedBy p x d (after-update (insert p x) d) n
+  pub inserts : (p x : List ℕ) (d : Document) → Pattern p → Sound (bare x) → Sound (d .tables) →
+      (n : ℕ) × InsertedBy p x (d .tables) (after-update (insert p x) (d .tables)) n × NamedBy x d (after-in (insert p x) d) n
+  pub tables : (u : Update) (d : Document) → after-in u d .tables ≡ after-update u (d .tables)
+  pub names-stay : (p : List ℕ) (d : Document) → (after-in (delete p) d .ids ≡ d .ids) × (after-in (delete p) d .next ≡ d .next)
   -- reading and updating a given document follow the same definitions, and a document that meets no refusal is sound
-  pub sound : (d : Doc) → Bits16 (d .rows) → documentCheck d ≡ Fine → Sound d
-  pub reading : (p : List ℕ) (table : ℕ) (d : Doc) (before after : List ℕ) → Bits16 (d .rows) → Read p table d before after Fine → Row (Selects p d) (d .used) before after
-  pub deleting : (p : List ℕ) (d : Doc) (marks : List ℕ) (n : ℕ) → Bits16 (d .rows) → Delete p d (d .marks) marks (deleted.Removed n) → DeletedBy p d (doc (d .rows) marks (d .used))
-  pub inserting : (p x : List ℕ) (d : Doc) (rows marks : List ℕ) (n used : ℕ) → Bits16 (d .rows) → Bits16 x → Insert p x d (d .rows) (d .marks) rows marks (inserted.Copied n used) →
-      InsertedBy p x d (doc rows marks used) n
+  pub sound : (d : Document) → Bits16 (d .tables .rows) → wholeCheck d ≡ Fine → SoundDocument d
+  pub reading : (p : List ℕ) (d : Document) (before after : List ℕ) → Bits16 (d .tables .rows) → Read p d before after Fine → Row (Selects p (d .tables)) (d .tables .used) before after
+  pub deleting : (p : List ℕ) (d : Document) (marks : List ℕ) (n : ℕ) → Bits16 (d .tables .rows) → Delete p d (d .tables .marks) marks (deleted.Removed n) →
+      DeletedBy p (d .tables) (withMarks d marks .tables)
+  pub inserting : (p x : List ℕ) (d : Document) (rows marks ids : List ℕ) (n used next : ℕ) → Bits16 (d .tables .rows) → Bits16 x →
+      Insert p x d (d .tables .rows) (d .tables .marks) (d .ids) rows marks ids (inserted.Copied n used next) →
+      InsertedBy p x (d .tables) (doc rows marks used) n × NamedBy x d (documentOf rows marks used ids next) n
   -- by the very functions of which a conflict speaks; present before equals present after plus the number that a delete tells
-  pub same-delete : (p : List ℕ) (d : Doc) (marks : List ℕ) (n : ℕ) → Delete p d (d .marks) marks (deleted.Removed n) → doc (d .rows) marks (d .used) ≡ after-update (delete p) d
-  pub same-insert : (p x : List ℕ) (d : Doc) (rows marks : List ℕ) (n used : ℕ) → Insert p x d (d .rows) (d .marks) rows marks (inserted.Copied n used) → doc rows marks used ≡ after-update (insert p x) d
-  pub removals : (p : List ℕ) (d : Doc) (marks : List ℕ) (n : ℕ) → Delete p d (d .marks) marks (deleted.Removed n) →
-      count (present d) (d .used) ≡ count (present (doc (d .rows) marks (d .used))) (d .used) + n
+  pub same-delete : (p : List ℕ) (d : Document) (marks : List ℕ) (n : ℕ) → Delete p d (d .tables .marks) marks (deleted.Removed n) → withMarks d marks ≡ after-in (delete p) d
+  pub same-insert : (p x : List ℕ) (d : Document) (rows marks ids : List ℕ) (n used next : ℕ) →
+      Insert p x d (d .tables .rows) (d .tables .marks) (d .ids) rows marks ids (inserted.Copied n used next) → documentOf rows marks used ids next ≡ after-in (insert p x) d
+  pub removals : (p : List ℕ) (d : Document) (marks : List ℕ) (n : ℕ) → Delete p d (d .tables .marks) marks (deleted.Removed n) →
+      count (present (d .tables)) (d .tables .used) ≡ count (present (withMarks d marks .tables)) (d .tables .used) + n
 
 -- an order that keeps the updates in sequence and runs each read after the update of its slot in the plan and before every update that follows it
 pub record Keeps (plan : List ℕ) (b : List (Frame (List ℕ) Update)) (o : List ℕ) : Type 0 where
@@ -125,15 +142,19 @@ pub record Keeps (plan : List ℕ) (b : List (Frame (List ℕ) Update)) (o : Lis
   pub before-later : {i j : ℕ} {r : List ℕ} {u : Update} → At b i (read r) → At b j (update u) → i < j → Before o i j
 
 -- a batch and a document that meet no refusal; their words have 16 bits
-pub record Start (b : List ℕ) (d : Doc) : Type 0 where
+pub record Start (b : List ℕ) (d : Document) : Type 0 where
   pub words : Bits16 b
   pub batch : batchCheck b ≡ Fine
-  pub rows : Bits16 (d .rows)
-  pub document : documentCheck d ≡ Fine
+  pub rows : Bits16 (d .tables .rows)
+  pub document : wholeCheck d ≡ Fine
 
 -- an example: delete a/b, then read a/c
 abbrev pub example : List ℕ
 example = 3 ∷ 2 ∷ 0 ∷ 1 ∷ 1 ∷ 2 ∷ 1 ∷ 2 ∷ 0 ∷ 1 ∷ 1 ∷ 3 ∷ []
+
+-- a document for it: b under a, nothing removed, of identities 4 and 7, the next one 9
+abbrev pub b-under-a : Document
+b-under-a = documentOf (0 ∷ 1 ∷ 0 ∷ 2 ∷ []) (0 ∷ 0 ∷ []) 2 (4 ∷ 7 ∷ []) 9
 
 -- another: delete a/b, then read a
 abbrev pub below-read : List ℕ
@@ -144,29 +165,35 @@ only-root = 0 ∷ 1 ∷ []
 
 -- Demand 3, by the relation from which slots are taken and by what is the same to a read: the plan of an accepted batch gives each read its slot. Take any document
 -- that meets no refusal, a run of the batch by its calls in any order that keeps the plan, and one in the batch's own order: they give the same, and no call is refused
--- but an insert for room
-pub record DemandThree (Related : List ℕ → Update → Type 0) (Alike : List ℕ → Doc → Doc → Type 0) : Type 0 where
+-- but an insert for identities or for room
+pub record DemandThree (Related : List ℕ → Update → Type 0) (Alike : List ℕ → Document → Document → Type 0) : Type 0 where
   pub slots : (b before plan : List ℕ) (n k : ℕ) (r : List ℕ) → PlanOf Related b before plan (planned.Frames n) → At (batchOf b) k (read r) → SlotIs Related (batchOf b) k r (getD plan k 0)
-  pub orders : (b before plan : List ℕ) (n : ℕ) → PlanOf Related b before plan (planned.Frames n) → (d : Doc) → Start b d → (o : List ℕ) → Keeps plan (batchOf b) o →
-      (one other : List Called) (last end : Doc) → Run (batchOf b) o d one last → Run (batchOf b) (own (batchOf b)) d other end → SameRuns Alike (batchOf b) one last other end
-  pub works : (b : List ℕ) (d : Doc) → Start b d → (o : List ℕ) (calls : List Called) (last : Doc) → Run (batchOf b) o d calls last →
-      (i k : ℕ) (e : Doc) (answer : Reply) → At calls i (called k e answer) → (f : Frame (List ℕ) Update) → At (batchOf b) k f → Works f answer
-  -- an insert is refused for room exactly where its copies do not fit into the document that it met
-  pub room : (b : List ℕ) (d : Doc) → Start b d → (o : List ℕ) (calls : List Called) (last : Doc) → Run (batchOf b) o d calls last →
-      (i k : ℕ) (e : Doc) (answer : Reply) → At calls i (called k e answer) → (p x : List ℕ) → At (batchOf b) k (update (insert p x)) → NoRoom answer ↔ (fits p x e ≡ false)
+  pub orders : (b before plan : List ℕ) (n : ℕ) → PlanOf Related b before plan (planned.Frames n) → (d : Document) → Start b d → (o : List ℕ) → Keeps plan (batchOf b) o →
+      (one other : List Called) (last end : Document) → Run (batchOf b) o d one last → Run (batchOf b) (own (batchOf b)) d other end → SameRuns Alike (batchOf b) one last other end
+  pub works : (b : List ℕ) (d : Document) → Start b d → (o : List ℕ) (calls : List Called) (last : Document) → Run (batchOf b) o d calls last →
+      (i k : ℕ) (e : Document) (answer : Reply) → At calls i (called k e answer) → (f : Frame (List ℕ) Update) → At (batchOf b) k f → Works f answer
+  -- an insert is refused for identities exactly where the document that it met has too few to give; and for room exactly where it has enough of them and the copies do not fit
+  pub identities : (b : List ℕ) (d : Document) → Start b d → (o : List ℕ) (calls : List Called) (last : Document) → Run (batchOf b) o d calls last →
+      (i k : ℕ) (e : Document) (answer : Reply) → At calls i (called k e answer) → (p x : List ℕ) → At (batchOf b) k (update (insert p x)) → NoIdentities answer ↔ (nameable p x e ≡ false)
+  pub room : (b : List ℕ) (d : Document) → Start b d → (o : List ℕ) (calls : List Called) (last : Document) → Run (batchOf b) o d calls last →
+      (i k : ℕ) (e : Document) (answer : Reply) → At calls i (called k e answer) → (p x : List ℕ) → At (batchOf b) k (update (insert p x)) →
+      NoRoom answer ↔ ((nameable p x e ≡ true) × (fitsIn p x e ≡ false))
   -- there are such orders and runs: the batch's own order keeps its plan, and so does one in which the example's read has moved; in every order of its frames there is a run, with a call for each
   pub own-keeps : (b before plan : List ℕ) (n : ℕ) → Bits16 b → PlanOf Related b before plan (planned.Frames n) → Keeps plan (batchOf b) (own (batchOf b))
-  pub starts : (b : List ℕ) (d : Doc) → Bits16 b → batchCheck b ≡ Fine → Bits16 (d .rows) → documentCheck d ≡ Fine → Start b d
-  pub start : Start example (doc (0 ∷ 1 ∷ 0 ∷ 2 ∷ []) (0 ∷ 0 ∷ []) 2)
+  pub starts : (b : List ℕ) (d : Document) → Bits16 b → batchCheck b ≡ Fine → Bits16 (d .tables .rows) → wholeCheck d ≡ Fine → Start b d
+  pub start : Start example b-under-a
   pub moved : PlanOf Related example (0 ∷ 0 ∷ []) (1 ∷ 0 ∷ []) (planned.Frames 2) × Keeps (1 ∷ 0 ∷ []) (batchOf example) (1 ∷ 0 ∷ [])
-  pub runs : (b : List (Frame (List ℕ) Update)) (o : List ℕ) (d : Doc) → ((p k : ℕ) → At o p k → k < length b) → Runs b o d
-  pub calls : (b : List (Frame (List ℕ) Update)) (o : List ℕ) (d last : Doc) (calls : List Called) → Run b o d calls last → (i k : ℕ) → At o i k → Has calls i k
+  pub runs : (b : List (Frame (List ℕ) Update)) (o : List ℕ) (d : Document) → ((p k : ℕ) → At o p k → k < length b) → Runs b o d
+  pub calls : (b : List (Frame (List ℕ) Update)) (o : List ℕ) (d last : Document) (calls : List Called) → Run b o d calls last → (i k : ℕ) → At o i k → Has calls i k
 
--- Demand 3 in both modes: node, where slots are taken from node conflicts and each read gives the same nodes; and deep, which a plan that names no mode is in, where they
--- are taken from the deep verdict and each read gives the same nodes, and the same present nodes below each
+-- Demand 3 in both modes: node, where slots are taken from node conflicts and each read gives the same identities; and deep, which a plan that names no mode is in, where
+-- they are taken from the deep verdict and each read gives the same identities, and the same present ones below each
 pub record InBothModes : Type 0 where
-  pub node : DemandThree Conflict SameNodes
-  pub deep : DemandThree Deep SameBelow
+  pub node : DemandThree Conflict SameIdentities
+  pub deep : DemandThree Deep SameIdentitiesBelow
+  -- a batch contains no compaction, so they have the same node numbers too
+  pub node-numbers : DemandThree Conflict (λ r d e. SameNodes r (d .tables) (e .tables))
+  pub deep-numbers : DemandThree Deep (λ r d e. SameBelow r (d .tables) (e .tables))
   -- the plan that is named by 1 is the node plan, and the one that is named by 2 the deep plan, which is given where none is named
   pub named-node : (b before after : List ℕ) (answer : Planned) → PlanIn 1 b before after answer ↔ PlanOf Conflict b before after answer
   pub named-deep : (b before after : List ℕ) (answer : Planned) → PlanIn 2 b before after answer ↔ Plan b before after answer
@@ -175,44 +202,73 @@ pub record InBothModes : Type 0 where
   pub line-deep : ModeLine deepLine × (modeLineCheck (firstWords deepLine) ≡ Fine) × (modeOf (getD (firstWords deepLine) 1 0) ≡ mode.Deep)
   -- a read's deep slot is never less than its node slot; what is the same in deep mode is the same in node mode; but not the other way round
   pub deeper : (b : List (Frame (List ℕ) Update)) (k : ℕ) (r : List ℕ) (v w : ℕ) → SlotIs Conflict b k r v → SlotIs Deep b k r w → v ≤ w
-  pub also-nodes : (r : List ℕ) (d e : Doc) → SameBelow r d e → SameNodes r d e
-  pub not-nodes : ((r : List ℕ) (d e : Doc) → Sound d → Sound e → SameNodes r d e → SameBelow r d e) → ⊥
+  pub also-nodes : (r : List ℕ) (d e : Document) → SameIdentitiesBelow r d e → SameIdentities r d e
+  pub not-nodes : ((r : List ℕ) (d e : Document) → SoundDocument d → SoundDocument e → SameIdentities r d e → SameIdentitiesBelow r d e) → ⊥
   -- nor is a node slot enough for deep mode: read a, after a delete of a/b
   pub slots-differ : SlotIs Conflict (batchOf below-read) 1 only-root 0 × SlotIs Deep (batchOf below-read) 1 only-root 1
 
 -- Deletes in either order: on a document that meets no refusal, each called by its promise on the marks that the one before it left
 pub record EitherOrder : Type 0 where
   -- two accepted deletes: neither second one is refused; in either order they leave the same marks, and the two counts together are the same
-  pub second : (p q : List ℕ) (d : Doc) → Bits16 (d .rows) → deleteCheck p d ≡ Fine → deleteCheck q d ≡ Fine → (x y : Deleted) (last : List ℕ) →
+  pub second : (p q : List ℕ) (d : Document) → Bits16 (d .tables .rows) → deleteCheck p d ≡ Fine → deleteCheck q d ≡ Fine → (x y : Deleted) (last : List ℕ) →
       Deletes (p ∷ q ∷ []) d (x ∷ y ∷ []) last → deleteRefusal y ≡ Fine
-  pub marks : (p q : List ℕ) (d : Doc) → Bits16 (d .rows) → deleteCheck p d ≡ Fine → deleteCheck q d ≡ Fine → (one other : List Deleted) (last end : List ℕ) →
+  pub marks : (p q : List ℕ) (d : Document) → Bits16 (d .tables .rows) → deleteCheck p d ≡ Fine → deleteCheck q d ≡ Fine → (one other : List Deleted) (last end : List ℕ) →
       Deletes (p ∷ q ∷ []) d one last → Deletes (q ∷ p ∷ []) d other end → last ≡ end
-  pub counts : (p q : List ℕ) (d : Doc) → Bits16 (d .rows) → (i j k l : ℕ) (last end : List ℕ) →
+  pub counts : (p q : List ℕ) (d : Document) → Bits16 (d .tables .rows) → (i j k l : ℕ) (last end : List ℕ) →
       Deletes (p ∷ q ∷ []) d (deleted.Removed i ∷ deleted.Removed j ∷ []) last → Deletes (q ∷ p ∷ []) d (deleted.Removed k ∷ deleted.Removed l ∷ []) end → i + j ≡ k + l
   -- the same delete twice leaves what it leaves once, and reports 0 the second time; one that was made before, whatever came between, changes nothing and reports 0
-  pub twice : (p : List ℕ) (d : Doc) → Bits16 (d .rows) → (n : ℕ) (answers : List Deleted) (once last : List ℕ) →
+  pub twice : (p : List ℕ) (d : Document) → Bits16 (d .tables .rows) → (n : ℕ) (answers : List Deleted) (once last : List ℕ) →
       Deletes (p ∷ []) d (deleted.Removed n ∷ []) once → Deletes (p ∷ p ∷ []) d answers last → (last ≡ once) × (answers ≡ deleted.Removed n ∷ deleted.Removed 0 ∷ [])
-  pub made-before : (ps : List (List ℕ)) (d : Doc) → Bits16 (d .rows) → (answers : List Deleted) (last : List ℕ) → Deletes ps d answers last →
+  pub made-before : (ps : List (List ℕ)) (d : Document) → Bits16 (d .tables .rows) → (answers : List Deleted) (last : List ℕ) → Deletes ps d answers last →
       (k : ℕ) (p : List ℕ) → At ps k p → deleteCheck p d ≡ Fine →
-      (after : List ℕ) (answer : Deleted) → Delete p (doc (d .rows) last (d .used)) last after answer → (after ≡ last) × (answer ≡ deleted.Removed 0)
+      (after : List ℕ) (answer : Deleted) → Delete p (withMarks d last) last after answer → (after ≡ last) × (answer ≡ deleted.Removed 0)
   -- each count alone need not be the same: on the chain a, b, c a delete at a/b and then one at a//c remove 2 nodes and 0, the other way round 1 and 1; so a law that
   -- says it of all that `counts` speaks of is wrong
   pub above-first : Deletes (a/b ∷ a//c ∷ []) abc (deleted.Removed 2 ∷ deleted.Removed 0 ∷ []) (0 ∷ 1 ∷ 1 ∷ [])
   pub below-first : Deletes (a//c ∷ a/b ∷ []) abc (deleted.Removed 1 ∷ deleted.Removed 1 ∷ []) (0 ∷ 1 ∷ 1 ∷ [])
-  pub not-each : ((p q : List ℕ) (d : Doc) → Bits16 (d .rows) → (i j k l : ℕ) (last end : List ℕ) →
+  pub not-each : ((p q : List ℕ) (d : Document) → Bits16 (d .tables .rows) → (i j k l : ℕ) (last end : List ℕ) →
       Deletes (p ∷ q ∷ []) d (deleted.Removed i ∷ deleted.Removed j ∷ []) last → Deletes (q ∷ p ∷ []) d (deleted.Removed k ∷ deleted.Removed l ∷ []) end → i ≡ l) → ⊥
   -- any number of deletes, refused ones among them: each is refused as it is on the first document; what is removed is exactly what one that is accepted covers
   -- there; present before equals present after the last plus the counts together; so in every order they leave the same marks and remove the same number together
-  pub refusals : (ps : List (List ℕ)) (d : Doc) → Bits16 (d .rows) → documentCheck d ≡ Fine → (answers : List Deleted) (last : List ℕ) → Deletes ps d answers last →
+  pub refusals : (ps : List (List ℕ)) (d : Document) → Bits16 (d .tables .rows) → wholeCheck d ≡ Fine → (answers : List Deleted) (last : List ℕ) → Deletes ps d answers last →
       map deleteRefusal answers ≡ map (λ p. deleteCheck p d) ps
-  pub removed : (ps : List (List ℕ)) (d : Doc) → Bits16 (d .rows) → documentCheck d ≡ Fine → (answers : List Deleted) (last : List ℕ) → Deletes ps d answers last →
-      AllDeletedBy ps d (doc (d .rows) last (d .used))
-  pub removals : (ps : List (List ℕ)) (d : Doc) (answers : List Deleted) (last : List ℕ) → Deletes ps d answers last →
-      count (present d) (d .used) ≡ count (present (doc (d .rows) last (d .used))) (d .used) + total answers
-  pub orders : (ps qs : List (List ℕ)) → Perm ps qs → (d : Doc) → Bits16 (d .rows) → documentCheck d ≡ Fine → (one other : List Deleted) (last end : List ℕ) →
+  pub removed : (ps : List (List ℕ)) (d : Document) → Bits16 (d .tables .rows) → wholeCheck d ≡ Fine → (answers : List Deleted) (last : List ℕ) → Deletes ps d answers last →
+      AllDeletedBy ps d (withMarks d last .tables)
+  pub removals : (ps : List (List ℕ)) (d : Document) (answers : List Deleted) (last : List ℕ) → Deletes ps d answers last →
+      count (present (d .tables)) (d .tables .used) ≡ count (present (withMarks d last .tables)) (d .tables .used) + total answers
+  pub orders : (ps qs : List (List ℕ)) → Perm ps qs → (d : Document) → Bits16 (d .tables .rows) → wholeCheck d ≡ Fine → (one other : List Deleted) (last end : List ℕ) →
       Deletes ps d one last → Deletes qs d other end → (last ≡ end) × (total one ≡ total other)
   -- there are such calls
-  pub calls : (ps : List (List ℕ)) (d : Doc) → CalledInTurn ps d
+  pub calls : (ps : List (List ℕ)) (d : Document) → CalledInTurn ps d
+
+-- Room back: a compaction that is not refused drops the removed nodes of d and leaves e
+pub record RoomBack : Type 0 where
+  -- the rest is closed up in order, with parents corrected and each identity left with its node; this settles it, and all that is dropped was removed
+  pub closed : (d e : Document) (n : ℕ) → Compacts d e n → ClosedBy d e
+  pub document : (d e : Document) (n : ℕ) → Compacts d e n → (e ≡ compacted d) × (n ≡ dropped (d .tables))
+  -- the room gained is the number dropped: so much less is used of a room that stays, and an insert fits exactly if before it lacked no more
+  pub gains : (d e : Document) (n : ℕ) → Compacts d e n → (e .tables .used + n ≡ d .tables .used) × (roomOf e ≡ roomOf d)
+  pub fits : (d e : Document) (n : ℕ) → Bits16 (d .tables .rows) → Compacts d e n → (p x : List ℕ) →
+      (fitsIn p x e ≡ true) ↔ (d .tables .used + copies p (d .tables) * nodes x ≤ roomOf d + n)
+  -- what is left is sound and meets no refusal
+  pub sound : (d e : Document) (n : ℕ) → Bits16 (d .tables .rows) → Compacts d e n → SoundDocument e × (wholeCheck e ≡ Fine)
+  -- every read selects the same identities before and after, and the same present ones below each
+  pub reads : (d e : Document) (n : ℕ) → Bits16 (d .tables .rows) → Compacts d e n → (r : List ℕ) → Pattern r → SameIdentitiesBelow r d e
+  -- a second compaction drops none and leaves every row
+  pub twice : (d e : Document) (n : ℕ) → Bits16 (d .tables .rows) → Compacts d e n → (rows marks ids : List ℕ) (answer : Compacted) →
+      Compact e (e .tables .rows) (e .tables .marks) (e .ids) rows marks ids answer →
+      (answer ≡ closing.Closed (e .tables .used) 0) × (rows ≡ e .tables .rows) × (marks ≡ e .tables .marks) × (ids ≡ e .ids)
+  -- between two batches: take a run of a batch on d in which no insert is refused for room, and one in the same order on e. At each place both call the same frame, on
+  -- documents that hold the same things by identity, and answer the same but for the numbers of nodes: used counts are n apart
+  pub batches : (b : List ℕ) (d e : Document) (n : ℕ) → Start b d → Compacts d e n → (o : List ℕ) (one other : List Called) (last end : Document) →
+      Run (batchOf b) o d one last → Run (batchOf b) o e other end → Roomy one → SameBatch n one other last end
+  -- and a compaction never makes an insert be refused for room: where a call on e is, one on d was no later
+  pub never-short : (b : List ℕ) (d e : Document) (n : ℕ) → Start b d → Compacts d e n → (o : List ℕ) (one other : List Called) (last end : Document) →
+      Run (batchOf b) o d one last → Run (batchOf b) o e other end → (i k : ℕ) (met : Document) (answer : Reply) → At other i (called k met answer) → NoRoom answer → Refuses one i
+  -- there are such calls, and they do change something: of a, its removed child b with c below it, and its child d with e below it, a, d and e are left
+  pub calls : (d : Document) → wholeCheck d ≡ Fine → (e : Document) × (n : ℕ) × Compacts d e n
+  pub example : Compacts (documentOf (0 ∷ 1 ∷ 0 ∷ 2 ∷ 1 ∷ 3 ∷ 0 ∷ 4 ∷ 3 ∷ 5 ∷ 8 ∷ 9 ∷ []) (0 ∷ 1 ∷ 1 ∷ 0 ∷ 0 ∷ 7 ∷ []) 5 (2 ∷ 3 ∷ 5 ∷ 6 ∷ 7 ∷ 1 ∷ []) 8)
+      (documentOf (0 ∷ 1 ∷ 0 ∷ 4 ∷ 1 ∷ 5 ∷ 0 ∷ 4 ∷ 3 ∷ 5 ∷ 8 ∷ 9 ∷ []) (0 ∷ 0 ∷ 0 ∷ 0 ∷ 0 ∷ 7 ∷ []) 3 (2 ∷ 6 ∷ 7 ∷ 6 ∷ 7 ∷ 1 ∷ []) 8) 2
 
 -- Other limits: installations differ in the steps of a pattern, the nodes of an inserted tree and the digits of a line. What one accepts, another accepts with the same
 -- frames and answers where its limits are no less; and to what one accepts another answers by 2, or by 13 where the line is too long for it, or accepts it
@@ -270,8 +326,8 @@ pub record Besides : Type 0 where
   pub same-slot : (m : Mode) (b c : List ℕ) → Bits16 b → Bits16 c → batchCheck b ≡ Fine → batchCheck c ≡ Fine → (k l : ℕ) (r : List ℕ) → At (batchOf b) k (read r) → At (batchOf c) l (read r) →
       earlier (batchOf b) k ≡ earlier (batchOf c) l → (v w : ℕ) → SlotIs (relationOf m) (batchOf b) k r v → SlotIs (relationOf m) (batchOf c) l r w → v ≡ w
   -- the two readings agree at every node
-  pub readings : (p t marks : List ℕ) → Bits16 t → ((v : ℕ) → v < nodes t → getD marks v 0 ≡ 0) → (table : ℕ) (before row before′ plain : List ℕ) →
-      Read p table (doc t marks (nodes t)) before row Fine → PlainRead p t before′ plain Fine → (v : ℕ) → v < nodes t → getD row v 0 ≡ getD plain v 0
+  pub readings : (p t marks ids : List ℕ) (next : ℕ) → Bits16 t → ((v : ℕ) → v < nodes t → getD marks v 0 ≡ 0) → (before row before′ plain : List ℕ) →
+      Read p (documentOf t marks (nodes t) ids next) before row Fine → PlainRead p t before′ plain Fine → (v : ℕ) → v < nodes t → getD row v 0 ≡ getD plain v 0
   -- the walker stays at a bad frame and at its end
   pub walker-refused : (b : List ℕ) (n at : ℕ) (why : Refusal) → stepAt b n at ≡ walker.Refused why → stepAt b (numberAfter b n at) (placeAfter b n at) ≡ walker.Refused why
   pub walker-over : (b : List ℕ) (n at : ℕ) → stepAt b n at ≡ walker.Over → stepAt b (numberAfter b n at) (placeAfter b n at) ≡ walker.Over
@@ -322,14 +378,19 @@ pub record Besides : Type 0 where
   pub written-same : (t before text : List ℕ) (n : ℕ) → Bits16 t → WriteTree t before text (printed.Bytes n) → (words tree : List ℕ) (answer : Parsed) →
       ReadTree (take n text) words tree answer → length t ≤ length words → InOrder t → take (length t) tree ≡ t
   pub renumbered-text : (t u : List ℕ) → Sound (bare t) → Sound (bare u) → (old : ℕ → ℕ) → Renumbered t u old → treeText u ≡ treeText t
-  -- with no conflict every output word stays, and behind any result all stays: behind a witness, a plan, marks, words and bytes
+  -- with no conflict every output word stays, and behind any result all stays: behind a witness, a plan, marks, identities, words and bytes
   pub clear-stays : (r : List ℕ) (u : Update) (before after : List ℕ) → NodeVerdict r u before after verdict.Clear → after ≡ before
   pub witness-behind : (r : List ℕ) (u : Update) (before after : List ℕ) (n : ℕ) → NodeVerdict r u before after (verdict.Conflict n) →
       (length after ≡ length before) × (drop (2 * n) after ≡ drop (2 * n) before)
-  pub marks-behind : (p : List ℕ) (d : Doc) (marks : List ℕ) (n : ℕ) → Delete p d (d .marks) marks (deleted.Removed n) →
-      (length marks ≡ length (d .marks)) × ((v : ℕ) → d .used ≤ v → getD marks v 0 ≡ mark d v)
-  pub tables-behind : (p x : List ℕ) (d : Doc) (rows marks : List ℕ) (n used : ℕ) → Insert p x d (d .rows) (d .marks) rows marks (inserted.Copied n used) →
-      (length rows ≡ length (d .rows)) × (length marks ≡ length (d .marks)) × ((i : ℕ) → 2 * used ≤ i → getD rows i 0 ≡ getD (d .rows) i 0) × ((v : ℕ) → used ≤ v → getD marks v 0 ≡ mark d v)
+  pub marks-behind : (p : List ℕ) (d : Document) (marks : List ℕ) (n : ℕ) → Delete p d (d .tables .marks) marks (deleted.Removed n) →
+      (length marks ≡ length (d .tables .marks)) × ((v : ℕ) → d .tables .used ≤ v → getD marks v 0 ≡ mark (d .tables) v)
+  pub tables-behind : (p x : List ℕ) (d : Document) (rows marks ids : List ℕ) (n used next : ℕ) →
+      Insert p x d (d .tables .rows) (d .tables .marks) (d .ids) rows marks ids (inserted.Copied n used next) →
+      (length rows ≡ length (d .tables .rows)) × (length marks ≡ length (d .tables .marks)) ×
+      ((i : ℕ) → 2 * used ≤ i → getD rows i 0 ≡ getD (d .tables .rows) i 0) × ((v : ℕ) → used ≤ v → getD marks v 0 ≡ mark (d .tables) v)
+  pub ids-behind : (p x : List ℕ) (d : Document) (rows marks ids : List ℕ) (n used next : ℕ) →
+      Insert p x d (d .tables .rows) (d .tables .marks) (d .ids) rows marks ids (inserted.Copied n used next) →
+      (length ids ≡ length (d .ids)) × ((v : ℕ) → used ≤ v → getD ids v 0 ≡ identity d v)
   pub plan-behind : (m : Mode) (b before after : List ℕ) (n : ℕ) → PlanOf (relationOf m) b before after (planned.Frames n) → (length after ≡ length before) × ((i : ℕ) → n ≤ i → getD after i 0 ≡ getD before i 0)
   pub words-behind : (s : List ℕ) (line : ℕ) (before after : List ℕ) (n : ℕ) → ReadAs s line before after (parsed.Words n) → drop n after ≡ drop n before
   pub digits-behind : (ws before after : List ℕ) (n : ℕ) → WrittenAs ws before after (spelled.Digits n) → drop n after ≡ drop n before

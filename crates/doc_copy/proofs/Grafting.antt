@@ -27,7 +27,7 @@ module _ (end words marks : ℕ) where
   fits-so h = sym (le-leb end (capacity words marks) h)
 
 -- the free rest of a list comes back with a new front
-lent-back : (t first : List ℕ) (a n m : ℕ) → m ≡ a + n → a ≤ length t →
+pub lent-back : (t first : List ℕ) (a n m : ℕ) → m ≡ a + n → a ≤ length t →
     take a t ++ (first ++ drop n (take (length t - a) (drop a t)) ++ drop (length t - a) (drop a t)) ≡ front a t ++ first ++ drop m t
 lent-back t first a n m e h =
     rw (rest-whole t a, rest-none t a, append-nil, drop-drop, ← e, front-take a t h) (sym (append-assoc (take a t) first (drop m t)))

@@ -12,28 +12,28 @@ use Rattle.tables.specs.declared.refusal.Checked.the-variants.{Fine, Refused}
 use Rattle.tables.specs.Words.{Bits16}
 use Rattle.tables.proofs.Soundness.{used-facts, accepted-document}
 use Rattle.outcomes.specs.declared.updates.Deleted.the-variants.{Removed, Refused as NotDeleted}
-use Rattle.doc_updates.specs.Updating.{deleteCheck, Delete}
+use Rattle.doc_updates.specs.Updating.{deleteTablesCheck, DeleteTables}
 use Rattle.doc_updates.specs.Asking.{Asked}
 use Rattle.doc_updates.proofs.Asking.{row-chosen, row-bytes}
-use Rattle.doc_updates.proofs.Accepted.{delete-document}
+use Rattle.doc_updates.proofs.Accepted.{delete-tables-document}
 use Rattle.doc_delete.specs.Striking.{Strikable, Strikes}
 
 -- a delete that is asked for and fine strikes a sound document
-module _ (p : List ℕ) (d : Doc) {before after : List ℕ} {got : Checked} (asked : Asked (deleteCheck p d) p d before after got) where
+module _ (p : List ℕ) (d : Doc) {before after : List ℕ} {got : Checked} (asked : Asked (deleteTablesCheck p d) p d before after got) where
   module _ (told : got ≡ Fine) where
-    fine : deleteCheck p d ≡ Fine
+    fine : deleteTablesCheck p d ≡ Fine
     fine = sym (asked .answered) ∙ told
 
     pub strikable : Bits16 (d .rows) → usedLimit ≤ length before → Strikable d after
     strikable words long =
-        let used = used-facts d (delete-document p d fine) in
+        let used = used-facts d (delete-tables-document p d fine) in
         record {
-          sound = accepted-document d (delete-document p d fine) words;
+          sound = accepted-document d (delete-tables-document p d fine) words;
           bytes = row-bytes p d before (asked .row told) (le-trans (used .1) long);
           marks = used .3;
         }
 
-    pub delete-done : {marks : List ℕ} {n : ℕ} → Strikes d after marks n → Delete p d (d .marks) marks (Removed n)
+    pub delete-done : {marks : List ℕ} {n : ℕ} → Strikes d after marks n → DeleteTables p d (d .marks) marks (Removed n)
     delete-done struck =
         let chosen = row-chosen p d before (asked .row told) in
         record {
@@ -41,7 +41,7 @@ module _ (p : List ℕ) (d : Doc) {before after : List ℕ} {got : Checked} (ask
           marks = rw fine (struck .marks p chosen);
         }
 
-  pub delete-refused : {r : Refusal} → got ≡ Refused r → Delete p d (d .marks) (d .marks) (NotDeleted r)
+  pub delete-refused : {r : Refusal} → got ≡ Refused r → DeleteTables p d (d .marks) (d .marks) (NotDeleted r)
   delete-refused told =
-      let refused : deleteCheck p d ≡ Refused _ = sym (asked .answered) ∙ told in
+      let refused : deleteTablesCheck p d ≡ Refused _ = sym (asked .answered) ∙ told in
       record { answered = rw refused; marks = rw refused }

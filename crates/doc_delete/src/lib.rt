@@ -2,6 +2,8 @@
 mod striking;
 
 use crate::striking::strike;
+use check_identities::identities;
+use check_identities::refusal_before;
 use doc_read::read::reading;
 use outcomes::updates::Deleted;
 use tables::limits::USED_LIMIT;
@@ -15,7 +17,8 @@ ghost use Rattle.tables.specs.Limits.{usedLimit};
 ghost use Rattle.tables.specs.Words.{steps};
 ghost use Rattle.tables.specs.Documents.{doc};
 ghost use Rattle.tables.specs.Checks.{test, refuse};
-ghost use Rattle.doc_updates.specs.Updating.{deleteCheck, Delete};
+ghost use Rattle.identities.specs.Documents.{document};
+ghost use Rattle.doc_updates.specs.Updating.{deleteTablesCheck, Delete, DeleteTables};
 ghost use Rattle.doc_updates.specs.Asking.{Asked};
 
 // 6 for a pattern of one step: a delete leaves the root.
@@ -31,7 +34,7 @@ fn below_root(p: &[u16]) -> Checked
 // The refusals of a delete, and the row of selected nodes where there is none.
 fn asked(p: &[u16], rows: &[u16], marks: &[u8], used: usize, row: &mut [u8]) -> Checked
     requires { ⌜ usedLimit ≤ length (now row) ⌝ }
-    ensures { λ r. ⌜ Asked (deleteCheck (now (p .entry)) (doc (now (rows .entry)) (now (marks .entry)) used)) (now (p .entry)) (doc (now (rows .entry)) (now (marks .entry)) used) (now (row .entry)) (now (row .exit)) r ⌝ }
+    ensures { λ r. ⌜ Asked (deleteTablesCheck (now (p .entry)) (doc (now (rows .entry)) (now (marks .entry)) used)) (now (p .entry)) (doc (now (rows .entry)) (now (marks .entry)) used) (now (row .entry)) (now (row .exit)) r ⌝ }
 {
     match reading(p, 2, rows, marks, used, row) {
         Checked::Fine => below_root(p),
@@ -39,13 +42,30 @@ fn asked(p: &[u16], rows: &[u16], marks: &[u8], used: usize, row: &mut [u8]) -> 
     }
 }
 
-// Delete: every selected node and everything below is marked as removed; how many newly.
-pub fn delete(p: &[u16], rows: &[u16], marks: &mut [u8], used: usize) -> Deleted
-    ensures { λ r. ⌜ Delete (now (p .entry)) (doc (now (rows .entry)) (now (marks .entry)) used) (now (marks .entry)) (now (marks .exit)) r ⌝ }
+// Deleting on tables without identities: every selected node and everything below is marked as removed; how many newly.
+pub fn deleting(p: &[u16], rows: &[u16], marks: &mut [u8], used: usize) -> Deleted
+    ensures { λ r. ⌜ DeleteTables (now (p .entry)) (doc (now (rows .entry)) (now (marks .entry)) used) (now (marks .entry)) (now (marks .exit)) r ⌝ }
 {
     let mut row = [0u8; USED_LIMIT];
     match asked(p, rows, marks, used, &mut row) {
         Checked::Fine => Deleted::Removed(strike(rows, marks, used, &mut row)),
         Checked::Refused(r) => Deleted::Refused(r),
+    }
+}
+
+// Delete: every selected node and everything below is marked as removed; how many newly. Identities stay with their nodes.
+pub fn delete(
+    p: &[u16],
+    rows: &[u16],
+    marks: &mut [u8],
+    used: usize,
+    ids: &[u32],
+    next: u32,
+) -> Deleted
+    ensures { λ r. ⌜ Delete (now (p .entry)) (document (now (rows .entry)) (now (marks .entry)) used (now (ids .entry)) next) (now (marks .entry)) (now (marks .exit)) r ⌝ }
+{
+    match identities(ids, used, next) {
+        Checked::Fine => deleting(p, rows, marks, used),
+        Checked::Refused(r) => Deleted::Refused(refusal_before(rows, marks, used, r)),
     }
 }

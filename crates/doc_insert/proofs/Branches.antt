@@ -11,13 +11,13 @@ use Rattle.doc_updates.specs.Updating.{insertAnswer}
 use Rattle.doc_insert.specs.Planning.{Small}
 
 -- an insert's answer, once its check is known
-module _ {got check : Checked} (n used : ℕ) (e : got ≡ check) where
-  pub answer-on : got ≡ Fine → Copied n used ≡ insertAnswer check n used
+module _ {got check : Checked} (n used next : ℕ) (e : got ≡ check) where
+  pub answer-on : got ≡ Fine → Copied n used next ≡ insertAnswer check n used next
   answer-on told = rw (← e, told)
 
-  pub answer-off : {r : Refusal} → got ≡ Refused r → NotInserted r ≡ insertAnswer check n used
+  pub answer-off : {r : Refusal} → got ≡ Refused r → NotInserted r ≡ insertAnswer check n used next
   answer-off told = rw (← e, told)
 
 -- a product of counts within the limits is far from wrapping
-pub product-small : {used copies nodes : ℕ} → Small used copies nodes → copies * nodes ≤ usedLimit * treeLimit
+pub product-small : {used copies nodes next : ℕ} → Small used copies nodes next → copies * nodes ≤ usedLimit * treeLimit
 product-small small = mul-le-mul (small .points) (small .tree)

@@ -12,20 +12,20 @@ use Rattle.tables.specs.declared.refusal.Checked.{Checked}
 use Rattle.tables.specs.declared.refusal.Checked.the-variants.{Fine, Refused}
 use Rattle.tables.proofs.Accepted.{then-first, then-second, output-room}
 use Rattle.tables.proofs.Soundness.{accepted-pattern, accepted-steps, node-falls, document-nodes, used-facts}
-use Rattle.check_read.specs.Readable.{readCheck}
-use Rattle.doc_read.specs.Reading.{Read}
+use Rattle.check_read.specs.Readable.{readTablesCheck}
+use Rattle.doc_read.specs.Reading.{ReadTables}
 use Rattle.doc_read.specs.Wanted.{wantedRow, ReadAt}
 use Rattle.doc_read.specs.Standing.{LastWanted, Readable}
 use Rattle.doc_read.proofs.Finding.{last-row}
 
-module _ (p : List ℕ) (table : ℕ) (d : Doc) (bytes : ℕ) (e : readCheck p table d bytes ≡ Fine) where
+module _ (p : List ℕ) (table : ℕ) (d : Doc) (bytes : ℕ) (e : readTablesCheck p table d bytes ≡ Fine) where
   pub fine-document : documentCheck d ≡ Fine
-  unfolding readCheck
+  unfolding readTablesCheck
   fine-document =
       then-first (documentCheck d) (patternCheck p stepLimit table then outputCheck (d .used) bytes) e
 
   fine-rest : (patternCheck p stepLimit table then outputCheck (d .used) bytes) ≡ Fine
-  unfolding readCheck
+  unfolding readTablesCheck
   fine-rest =
       then-second (documentCheck d) (patternCheck p stepLimit table then outputCheck (d .used) bytes) e
 
@@ -35,11 +35,11 @@ module _ (p : List ℕ) (table : ℕ) (d : Doc) (bytes : ℕ) (e : readCheck p t
   pub fine-room : d .used ≤ bytes
   fine-room = output-room (d .used) bytes (then-second (patternCheck p stepLimit table) (outputCheck (d .used) bytes) fine-rest)
 
-module _ (p : List ℕ) (table : ℕ) (d : Doc) (before : List ℕ) {got : Checked} (e : got ≡ readCheck p table d (length before)) where
+module _ (p : List ℕ) (table : ℕ) (d : Doc) (before : List ℕ) {got : Checked} (e : got ≡ readTablesCheck p table d (length before)) where
   -- a row that passed the checks can be read into
   pub fine-readable : got ≡ Fine → Readable p (d .rows) (d .marks) (d .used) before
   fine-readable told =
-      let fine : readCheck p table d (length before) ≡ Fine = sym e ∙ told in
+      let fine : readTablesCheck p table d (length before) ≡ Fine = sym e ∙ told in
       record {
         some = accepted-pattern p stepLimit table (fine-pattern p table d (length before) fine) .some;
         few = accepted-steps p stepLimit table (fine-pattern p table d (length before) fine);
@@ -57,7 +57,7 @@ module _ (p : List ℕ) (table : ℕ) (d : Doc) (before : List ℕ) {got : Check
   read-refused told wanted = record { answered = sym told ∙ e; row = refl }
 
 -- what a fine check says of the pattern's steps
-module _ (p : List ℕ) (table : ℕ) (d : Doc) (bytes : ℕ) (e : readCheck p table d bytes ≡ Fine) where
+module _ (p : List ℕ) (table : ℕ) (d : Doc) (bytes : ℕ) (e : readTablesCheck p table d bytes ≡ Fine) where
   pub fine-some : 0 < steps p
   fine-some = accepted-pattern p stepLimit table (fine-pattern p table d bytes e) .some
 
@@ -65,7 +65,7 @@ module _ (p : List ℕ) (table : ℕ) (d : Doc) (bytes : ℕ) (e : readCheck p t
   fine-few = accepted-steps p stepLimit table (fine-pattern p table d bytes e)
 
 -- a reading at the last step alone is a read
-pub last-read : {p : List ℕ} {table : ℕ} {d : Doc} {wanted before after : List ℕ} (answer : Checked) → LastWanted p wanted → ReadAt p table d wanted before after answer → Read p table d before after answer
+pub last-read : {p : List ℕ} {table : ℕ} {d : Doc} {wanted before after : List ℕ} (answer : Checked) → LastWanted p wanted → ReadAt p table d wanted before after answer → ReadTables p table d before after answer
 last-read {p} {table} {d} {before = before} Fine asks r =
     record {
       answered = r .answered;

@@ -11,7 +11,7 @@ use Rattle.tables.specs.declared.refusal.Checked.{Checked}
 use Rattle.tables.specs.Checks.{whereFine}
 use Rattle.selection.specs.Lists.{tab, somewhere}
 use Rattle.selection.specs.Ways.{up, run}
-use Rattle.check_read.specs.Readable.{readCheck}
+use Rattle.check_read.specs.Readable.{readTablesCheck}
 
 -- step i is wanted: its byte is 1
 unfoldable pub wants : List ℕ → ℕ → Bool
@@ -28,5 +28,5 @@ wantedRow p wanted d row = tab (λ v. cond (standsAt p wanted d v) 1 0) (d .used
 
 -- the answer and the row of a reading at wanted steps: a read's answer; a refusal changes nothing
 pub record ReadAt (p : List ℕ) (table : ℕ) (d : Doc) (wanted before after : List ℕ) (answer : Checked) : Type 0 where
-  pub answered : answer ≡ readCheck p table d (length before)
+  pub answered : answer ≡ readTablesCheck p table d (length before)
   pub row : after ≡ whereFine answer (wantedRow p wanted d before) before

@@ -1,4 +1,5 @@
-// The room of an insert: how many copies there are to make, and whether they fit.
+// The room of an insert: how many copies there are to make, and whether there are identities and room for them.
+use tables::limits::IDENTITY_LIMIT;
 use tables::limits::USED_LIMIT;
 use tables::refusal::Checked;
 use tables::refusal::refused;
@@ -6,8 +7,9 @@ use tables::words::byte;
 ghost use Prim.Native.Nat.{_/_, min};
 ghost use mathlib.Core.Path.{_≡_};
 ghost use lib.Dec.{leb};
+ghost use Rattle.tables.specs.Limits.{identityLimit};
 ghost use Rattle.tables.specs.Documents.{capacity};
-ghost use Rattle.tables.specs.Checks.{test, refuse};
+ghost use Rattle.tables.specs.Checks.{_then_, test, refuse};
 ghost use Rattle.selection.specs.Lists.{count};
 ghost use Rattle.doc_updates.specs.Asking.{chosen};
 ghost use Rattle.doc_room.specs.Ticking.{ticked};
@@ -45,13 +47,34 @@ fn lesser(a: usize, b: usize) -> usize
     b
 }
 
-// 11 where so many nodes pass the least of 4,096, half the table's words and the marks.
-pub fn fitting(end: usize, words: usize, marks: usize) -> Checked
-    ensures { λ r. ⌜ r ≡ test (leb end (capacity words marks)) (refuse 11 4 0) ⌝ }
+// 11 where so many nodes pass the least of 4,096, half the table's words, the marks and the identities.
+fn fitting(end: usize, words: usize, marks: usize, ids: usize) -> Checked
+    ensures { λ r. ⌜ r ≡ test (leb end (min (capacity words marks) ids)) (refuse 11 4 0) ⌝ }
 {
-    let least = lesser(USED_LIMIT, lesser(words / 2, marks));
+    let most = lesser(USED_LIMIT, lesser(words / 2, marks));
+    let least = lesser(most, ids);
     if least < end {
         return refused(11, 4, 0);
     }
     Checked::Fine
+}
+
+// 16 where the next identity would pass 4,294,967,295.
+fn naming(next: usize) -> Checked
+    ensures { λ r. ⌜ r ≡ test (leb next identityLimit) (refuse 16 5 0) ⌝ }
+{
+    if IDENTITY_LIMIT < next {
+        return refused(16, 5, 0);
+    }
+    Checked::Fine
+}
+
+// The room of an insert behind which there are so many nodes and this next identity: 16, then 11.
+pub fn room(end: usize, next: usize, words: usize, marks: usize, ids: usize) -> Checked
+    ensures { λ r. ⌜ r ≡ (test (leb next identityLimit) (refuse 16 5 0) then test (leb end (min (capacity words marks) ids)) (refuse 11 4 0)) ⌝ }
+{
+    match naming(next) {
+        Checked::Fine => fitting(end, words, marks, ids),
+        Checked::Refused(r) => Checked::Refused(r),
+    }
 }

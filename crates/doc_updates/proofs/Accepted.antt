@@ -1,102 +1,138 @@
 -- What the checks of an update say where they are fine.
-use Prim.Native.Nat.{ℕ, _<_}
+use Prim.Native.Nat.{ℕ, _+_, _*_, _<_, _≤_}
 use mathlib.Core.Path.{_≡_, refl, sym, _∙_}
+use mathlib.Core.Bool.{true}
 use mathlib.Core.List.{List}
 use native.Mathlib.Omega.{arith}
 use lib.Dec.{ltb}
-use borrow.Author.Tests.{ltb-true}
-use Rattle.tables.specs.Limits.{stepLimit, treeLimit}
-use Rattle.tables.specs.Words.{steps}
+use lib.ListN.{length}
+use borrow.Author.Tests.{ltb-true, leb-true, le-leb}
+use Rattle.tables.specs.Limits.{stepLimit, treeLimit, identityLimit}
+use Rattle.tables.specs.Words.{steps, nodes}
 use Rattle.tables.specs.Patterns.{Pattern}
-use Rattle.tables.specs.Documents.{Doc}
+use Rattle.tables.specs.Documents.{Doc, capacity}
 use Rattle.tables.specs.Checks.{_then_, test, refuse, documentCheck, patternCheck, treeCheck}
 use Rattle.tables.specs.declared.refusal.Refusal.{Refusal}
 use Rattle.tables.specs.declared.refusal.Checked.{Checked}
 use Rattle.tables.specs.declared.refusal.Checked.the-variants.{Fine, Refused}
 use Rattle.tables.proofs.Accepted.{held, then-first, then-second}
 use Rattle.tables.proofs.Soundness.{accepted-pattern}
-use Rattle.selection.specs.Operations.{fits}
+use Rattle.selection.specs.Operations.{copies, fits}
 use Rattle.selection.proofs.Inserting.{Room, fits-room}
+use Rattle.identities.specs.Documents.{Document}
+use Rattle.identities.specs.Checks.{wholeCheck}
+use Rattle.identities.specs.Updates.{written, nameable, roomOf, fitsIn}
 use Rattle.outcomes.specs.declared.updates.Deleted.{Deleted}
 use Rattle.outcomes.specs.declared.updates.Deleted.the-variants.{Removed, Refused as NotDeleted}
 use Rattle.outcomes.specs.declared.updates.Inserted.the-variants.{Copied, Refused as NotInserted}
-use Rattle.doc_updates.specs.Updating.{deleteCheck, insertCheck, deleteAnswer, insertAnswer, deleteRefusal}
-use Rattle.doc_updates.specs.Asking.{tablesCheck}
-use Rattle.doc_updates.proofs.Asking.{then-assoc}
+use Rattle.doc_updates.specs.Updating.{deleteCheck, deleteTablesCheck, insertCheck, deleteAnswer, insertAnswer, deleteRefusal}
 
--- a delete: a document, a pattern, and more than one step
-module _ (p : List ℕ) (d : Doc) (e : deleteCheck p d ≡ Fine) where
-  pub delete-document : documentCheck d ≡ Fine
+-- a delete: a document, whatever its check is, then a pattern, and more than one step
+module _ (p : List ℕ) (document : Checked) (e : (document then patternCheck p stepLimit 2 then test (ltb 1 (steps p)) (refuse 6 2 0)) ≡ Fine) where
+  first : document ≡ Fine
+  first = then-first document (patternCheck p stepLimit 2 then test (ltb 1 (steps p)) (refuse 6 2 0)) e
+
+  rest : (patternCheck p stepLimit 2 then test (ltb 1 (steps p)) (refuse 6 2 0)) ≡ Fine
+  rest = then-second document (patternCheck p stepLimit 2 then test (ltb 1 (steps p)) (refuse 6 2 0)) e
+
+  second : Pattern p
+  second = accepted-pattern p stepLimit 2 (then-first (patternCheck p stepLimit 2) (test (ltb 1 (steps p)) (refuse 6 2 0)) rest)
+
+  third : 1 < steps p
+  third = ltb-true 1 (steps p) (held (ltb 1 (steps p)) _ (then-second (patternCheck p stepLimit 2) (test (ltb 1 (steps p)) (refuse 6 2 0)) rest))
+
+-- of tables without identities
+module _ (p : List ℕ) (d : Doc) (e : deleteTablesCheck p d ≡ Fine) where
+  pub delete-tables-document : documentCheck d ≡ Fine
+  unfolding deleteTablesCheck
+  delete-tables-document = first p (documentCheck d) e
+
+  pub delete-tables-steps : 1 < steps p
+  unfolding deleteTablesCheck
+  delete-tables-steps = third p (documentCheck d) e
+
+-- of a document
+module _ (p : List ℕ) (d : Document) (e : deleteCheck p d ≡ Fine) where
+  pub delete-document : wholeCheck d ≡ Fine
   unfolding deleteCheck
-  delete-document = then-first (documentCheck d) (patternCheck p stepLimit 2 then test (ltb 1 (steps p)) (refuse 6 2 0)) e
+  delete-document = first p (wholeCheck d) e
 
   pub delete-pattern : Pattern p
   unfolding deleteCheck
-  delete-pattern =
-      accepted-pattern p stepLimit 2
-      (then-first (patternCheck p stepLimit 2) (test (ltb 1 (steps p)) (refuse 6 2 0))
-      (then-second (documentCheck d) (patternCheck p stepLimit 2 then test (ltb 1 (steps p)) (refuse 6 2 0)) e))
+  delete-pattern = second p (wholeCheck d) e
 
   pub delete-steps : 1 < steps p
   unfolding deleteCheck
-  delete-steps =
-      ltb-true 1 (steps p)
-      (held (ltb 1 (steps p)) _
-      (then-second (patternCheck p stepLimit 2) (test (ltb 1 (steps p)) (refuse 6 2 0))
-      (then-second (documentCheck d) (patternCheck p stepLimit 2 then test (ltb 1 (steps p)) (refuse 6 2 0)) e)))
+  delete-steps = third p (wholeCheck d) e
 
--- an insert: a document, a pattern and a tree, then room
-module _ (p x : List ℕ) (d : Doc) where
-  whole : insertCheck p x d ≡ (tablesCheck p x d then test (fits p x d) (refuse 11 4 0))
+-- an insert: a document, a pattern and a tree, then identities, then room
+module _ (p x : List ℕ) (d : Document) where
+  -- the last two
+  abbrev pub roomCheck : Checked
+  roomCheck = test (nameable p x d) (refuse 16 5 0) then test (fitsIn p x d) (refuse 11 4 0)
+
+  -- where the document's check is known
+  pub insert-whole : {document : Checked} → wholeCheck d ≡ document → insertCheck p x d ≡ (document then patternCheck p stepLimit 2 then treeCheck x treeLimit 3 then roomCheck)
   unfolding insertCheck
-  whole =
-      sym
-      (then-assoc (documentCheck d) (patternCheck p stepLimit 2 then treeCheck x treeLimit 3) (test (fits p x d) (refuse 11 4 0))
-      ∙ rw (then-assoc (patternCheck p stepLimit 2) (treeCheck x treeLimit 3) (test (fits p x d) (refuse 11 4 0))))
-
-  module _ (e : tablesCheck p x d ≡ Fine) where
-    pub three-document : documentCheck d ≡ Fine
-    three-document = then-first (documentCheck d) (patternCheck p stepLimit 2 then treeCheck x treeLimit 3) e
-
-    pub three-tree : treeCheck x treeLimit 3 ≡ Fine
-    three-tree =
-        then-second (patternCheck p stepLimit 2) (treeCheck x treeLimit 3)
-        (then-second (documentCheck d) (patternCheck p stepLimit 2 then treeCheck x treeLimit 3) e)
-
-    pub insert-last : insertCheck p x d ≡ test (fits p x d) (refuse 11 4 0)
-    insert-last = whole ∙ rw e
-
-  pub insert-three : {r : Refusal} → tablesCheck p x d ≡ Refused r → insertCheck p x d ≡ Refused r
-  insert-three e = whole ∙ rw e
+  insert-whole e = rw e
 
   module _ (e : insertCheck p x d ≡ Fine) where
-    first-three : tablesCheck p x d ≡ Fine
-    first-three = then-first (tablesCheck p x d) (test (fits p x d) (refuse 11 4 0)) (sym whole ∙ e)
+    pub insert-document : wholeCheck d ≡ Fine
+    unfolding insertCheck
+    insert-document = then-first (wholeCheck d) (patternCheck p stepLimit 2 then treeCheck x treeLimit 3 then roomCheck) e
 
-    pub insert-document : documentCheck d ≡ Fine
-    insert-document = three-document first-three
+    behind-document : (patternCheck p stepLimit 2 then treeCheck x treeLimit 3 then roomCheck) ≡ Fine
+    unfolding insertCheck
+    behind-document = then-second (wholeCheck d) (patternCheck p stepLimit 2 then treeCheck x treeLimit 3 then roomCheck) e
 
     pub insert-pattern : Pattern p
-    insert-pattern =
-        accepted-pattern p stepLimit 2
-        (then-first (patternCheck p stepLimit 2) (treeCheck x treeLimit 3)
-        (then-second (documentCheck d) (patternCheck p stepLimit 2 then treeCheck x treeLimit 3) first-three))
+    insert-pattern = accepted-pattern p stepLimit 2 (then-first (patternCheck p stepLimit 2) (treeCheck x treeLimit 3 then roomCheck) behind-document)
+
+    behind-pattern : (treeCheck x treeLimit 3 then roomCheck) ≡ Fine
+    behind-pattern = then-second (patternCheck p stepLimit 2) (treeCheck x treeLimit 3 then roomCheck) behind-document
 
     pub insert-tree : treeCheck x treeLimit 3 ≡ Fine
-    insert-tree = three-tree first-three
+    insert-tree = then-first (treeCheck x treeLimit 3) roomCheck behind-pattern
 
-    pub insert-room : Room p x d
-    insert-room = fits-room p x d (held (fits p x d) _ (then-second (tablesCheck p x d) (test (fits p x d) (refuse 11 4 0)) (sym whole ∙ e)))
+    pub insert-named : nameable p x d ≡ true
+    insert-named =
+        held (nameable p x d) _
+        (then-first (test (nameable p x d) (refuse 16 5 0)) (test (fitsIn p x d) (refuse 11 4 0)) (then-second (treeCheck x treeLimit 3) roomCheck behind-pattern))
+
+    pub insert-fits : fitsIn p x d ≡ true
+    insert-fits =
+        held (fitsIn p x d) _
+        (then-second (test (nameable p x d) (refuse 16 5 0)) (test (fitsIn p x d) (refuse 11 4 0)) (then-second (treeCheck x treeLimit 3) roomCheck behind-pattern))
+
+-- what room there is: for the nodes in the tables, and for their identities in the row
+module _ (p x : List ℕ) (d : Document) (e : fitsIn p x d ≡ true) where
+  most : d .tables .used + written p x (d .tables) ≤ roomOf d
+  unfolding fitsIn
+  most = leb-true (d .tables .used + written p x (d .tables)) (roomOf d) e
+
+  pub fits-tables : Room p x (d .tables)
+  unfolding written fits
+  fits-tables =
+      fits-room p x (d .tables)
+      (le-leb (d .tables .used + copies p (d .tables) * nodes x) (capacity (length (d .tables .rows)) (length (d .tables .marks))) (omega (arith, most)))
+
+  pub fits-ids : d .tables .used + written p x (d .tables) ≤ length (d .ids)
+  fits-ids = omega (arith, most)
+
+-- and what identities there are
+pub named-most : (p x : List ℕ) (d : Document) → nameable p x d ≡ true → d .next + written p x (d .tables) ≤ identityLimit
+unfolding nameable
+named-most p x d e = leb-true (d .next + written p x (d .tables)) identityLimit e
 
 -- an insert that answers copies met no refusal
-pub copied-fine : (c : Checked) (a b : ℕ) {n used : ℕ} → insertAnswer c a b ≡ Copied n used → c ≡ Fine
-copied-fine Fine a b e = refl
-copied-fine (Refused r) a b e = let z : _≡_ {A = ℕ} 0 1 = cc in absurd (omega arith)
+pub copied-fine : (c : Checked) (a b m : ℕ) {n used next : ℕ} → insertAnswer c a b m ≡ Copied n used next → c ≡ Fine
+copied-fine Fine a b m e = refl
+copied-fine (Refused r) a b m e = let z : _≡_ {A = ℕ} 0 1 = cc in absurd (omega arith)
 
 -- one that answers a refusal met it
-pub refused-told : (c : Checked) (a b : ℕ) {r : Refusal} → insertAnswer c a b ≡ NotInserted r → c ≡ Refused r
-refused-told Fine a b e = let z : _≡_ {A = ℕ} 0 1 = cc in absurd (omega arith)
-refused-told (Refused r) a b e = cc
+pub refused-told : (c : Checked) (a b m : ℕ) {r : Refusal} → insertAnswer c a b m ≡ NotInserted r → c ≡ Refused r
+refused-told Fine a b m e = let z : _≡_ {A = ℕ} 0 1 = cc in absurd (omega arith)
+refused-told (Refused r) a b m e = cc
 
 -- the same of a delete
 pub removed-fine : (c : Checked) (a : ℕ) {n : ℕ} → Removed n ≡ deleteAnswer c a → c ≡ Fine

@@ -21,8 +21,8 @@ use Rattle.selection.specs.Operations.{readRow, points, copies}
 use Rattle.selection.proofs.Lists.{count-ext}
 use Rattle.selection.proofs.Filling.{row-new, row-long}
 use Rattle.selection.proofs.Inserting.{copies-count}
-use Rattle.check_read.specs.Readable.{readCheck}
-use Rattle.doc_read.specs.Reading.{Read}
+use Rattle.check_read.specs.Readable.{readTablesCheck}
+use Rattle.doc_read.specs.Reading.{ReadTables}
 use Rattle.doc_updates.specs.Asking.{chosen, Chosen, Asked}
 use Rattle.doc_updates.proofs.Bits.{bit-flag}
 use Rattle.doc_updates.proofs.Counting.{rising-ext}
@@ -36,8 +36,8 @@ then-assoc Fine b c = refl
 then-assoc (Refused r) b c = refl
 
 -- with a byte for 4,096 nodes the checks of a read are the document's and the pattern's
-pub never-short : (p : List ℕ) (table : ℕ) (d : Doc) (bytes : ℕ) → usedLimit ≤ bytes → readCheck p table d bytes ≡ (documentCheck d then patternCheck p stepLimit table)
-unfolding readCheck outputCheck
+pub never-short : (p : List ℕ) (table : ℕ) (d : Doc) (bytes : ℕ) → usedLimit ≤ bytes → readTablesCheck p table d bytes ≡ (documentCheck d then patternCheck p stepLimit table)
+unfolding readTablesCheck outputCheck
 never-short p table d bytes long = go (documentCheck d) (λ e. rw (le-leb (d .used) bytes (le-trans (used-facts d e .1) long)) (then-fine (patternCheck p stepLimit table)))
   where
     go : (c : Checked) → (c ≡ Fine → (patternCheck p stepLimit table then test (leb (d .used) bytes) (refuse 7 4 0)) ≡ patternCheck p stepLimit table) →
@@ -45,7 +45,7 @@ never-short p table d bytes long = go (documentCheck d) (λ e. rw (le-leb (d .us
     go Fine f = f refl
     go (Refused r) f = refl
 
-module _ (p : List ℕ) (d : Doc) (before : List ℕ) (long : usedLimit ≤ length before) (rest : Checked) {got : Checked} {after : List ℕ} (read : Read p 2 d before after got) where
+module _ (p : List ℕ) (d : Doc) (before : List ℕ) (long : usedLimit ≤ length before) (rest : Checked) {got : Checked} {after : List ℕ} (read : ReadTables p 2 d before after got) where
   first-two : got ≡ (documentCheck d then patternCheck p stepLimit 2)
   first-two = read .answered ∙ never-short p 2 d (length before) long
 

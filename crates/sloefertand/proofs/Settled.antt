@@ -3,13 +3,15 @@ use Prim.Native.Nat.{ℕ, _*_}
 use mathlib.Core.Path.{_≡_, refl, sym, ap, subst, _∙_}
 use mathlib.Core.List.{List}
 use lib.ListN.{length, drop}
-use Rattle.tables.specs.Documents.{Doc}
+use Rattle.identities.specs.Documents.{Document}
 use Rattle.doc_plain.specs.Plain.{PlainRead}
 use Rattle.doc_plain.proofs.Promise.{plain-one}
 use Rattle.doc_read.specs.Reading.{Read}
 use Rattle.doc_read.proofs.Laws.{read-one}
 use Rattle.doc_updates.specs.Updating.{Delete, Insert}
 use Rattle.doc_updates.proofs.Settled.{delete-one, insert-one}
+use Rattle.doc_compact.specs.Compacting.{Compact}
+use Rattle.doc_compact.proofs.Laws.{compact-one}
 use Rattle.conflict.specs.Conflict.{Update}
 use Rattle.outcomes.specs.declared.verdicts.Verdict.{Verdict}
 use Rattle.outcomes.specs.declared.verdicts.Verdict.the-variants as verdict
@@ -39,7 +41,7 @@ use Rattle.text_xml_out.proofs.Promise.{tree-one}
 use Rattle.text_printer.specs.Printer.{PrintedAs}
 use Rattle.text_printer.proofs.Settled.{printed-one}
 use Rattle.c_answer.specs.Answers.{Told}
-use Rattle.c_numbers.specs.Numbers.{ofChecked, ofDeleted, ofInserted, ofVerdict, ofDeeply, ofEvidence, ofPlanned, ofParsed, ofSpelled, ofPrinted}
+use Rattle.c_numbers.specs.Numbers.{ofChecked, ofDeleted, ofInserted, ofCompacted, ofVerdict, ofDeeply, ofEvidence, ofPlanned, ofParsed, ofSpelled, ofPrinted}
 use Rattle.c_answer.specs.declared.answer.Answer.{Answer}
 
 -- where the promises settle the answer and something more by its numbers, so do the numbers
@@ -53,10 +55,10 @@ module _ {a b : Answer} (before one two : List ℕ) where
   pub plain-told : (p t : List ℕ) → Told ofChecked (PlainRead p t before one) a → Told ofChecked (PlainRead p t before two) b → (a ≡ b) × (one ≡ two)
   plain-told p t = told-one (λ _. one ≡ two) (λ x y. plain-one)
 
-  pub read-told : (p : List ℕ) (d : Doc) → Told ofChecked (Read p 1 d before one) a → Told ofChecked (Read p 1 d before two) b → (a ≡ b) × (one ≡ two)
+  pub read-told : (p : List ℕ) (d : Document) → Told ofChecked (Read p d before one) a → Told ofChecked (Read p d before two) b → (a ≡ b) × (one ≡ two)
   read-told p d = told-one (λ _. one ≡ two) (λ x y f g. let both = read-one f g in (both .1, both .0))
 
-  pub delete-told : (p : List ℕ) (d : Doc) → Told ofDeleted (Delete p d before one) a → Told ofDeleted (Delete p d before two) b → (a ≡ b) × (one ≡ two)
+  pub delete-told : (p : List ℕ) (d : Document) → Told ofDeleted (Delete p d before one) a → Told ofDeleted (Delete p d before two) b → (a ≡ b) × (one ≡ two)
   delete-told p d = told-one (λ _. one ≡ two) (λ x y. delete-one)
 
   -- all behind the witness, whose words are free
@@ -102,11 +104,14 @@ module _ {a b : Answer} (before one two : List ℕ) where
   pub printed-told : (s : List ℕ) → Told ofPrinted (PrintedAs s before one) a → Told ofPrinted (PrintedAs s before two) b → (a ≡ b) × (one ≡ two)
   printed-told s = told-one (λ _. one ≡ two) (printed-one s before one two)
 
-pub insert-told : {a b : Answer} (p x : List ℕ) (d : Doc) (rows₀ marks₀ rows₁ marks₁ rows₂ marks₂ : List ℕ)
-    → Told ofInserted (Insert p x d rows₀ marks₀ rows₁ marks₁) a → Told ofInserted (Insert p x d rows₀ marks₀ rows₂ marks₂) b
-    → (a ≡ b) × ((rows₁ ≡ rows₂) × (marks₁ ≡ marks₂))
-insert-told p x d rows₀ marks₀ rows₁ marks₁ rows₂ marks₂ =
-    told-one (λ _. (rows₁ ≡ rows₂) × (marks₁ ≡ marks₂)) (λ x y f g. let all = insert-one f g in (all .0, (all .1, all .2)))
+module _ {a b : Answer} (rows₀ marks₀ ids₀ rows₁ marks₁ ids₁ rows₂ marks₂ ids₂ : List ℕ) where
+  pub insert-told : (p x : List ℕ) (d : Document) → Told ofInserted (Insert p x d rows₀ marks₀ ids₀ rows₁ marks₁ ids₁) a → Told ofInserted (Insert p x d rows₀ marks₀ ids₀ rows₂ marks₂ ids₂) b
+      → (a ≡ b) × ((rows₁ ≡ rows₂) × (marks₁ ≡ marks₂) × (ids₁ ≡ ids₂))
+  insert-told p x d = told-one (λ _. (rows₁ ≡ rows₂) × (marks₁ ≡ marks₂) × (ids₁ ≡ ids₂)) (λ x y f g. let all = insert-one f g in (all .0, (all .1, all .2, all .3)))
+
+  pub compact-told : (d : Document) → Told ofCompacted (Compact d rows₀ marks₀ ids₀ rows₁ marks₁ ids₁) a → Told ofCompacted (Compact d rows₀ marks₀ ids₀ rows₂ marks₂ ids₂) b
+      → (a ≡ b) × ((rows₁ ≡ rows₂) × (marks₁ ≡ marks₂) × (ids₁ ≡ ids₂))
+  compact-told d = told-one (λ _. (rows₁ ≡ rows₂) × (marks₁ ≡ marks₂) × (ids₁ ≡ ids₂)) (λ x y f g. let all = compact-one f g in (all .0, (all .1, all .2, all .3)))
 
 -- a deep verdict has no buffer
 pub deep-told : {a b : Answer} (r : List ℕ) (u : Update) → Told ofDeeply (DeepVerdict r u) a → Told ofDeeply (DeepVerdict r u) b → a ≡ b

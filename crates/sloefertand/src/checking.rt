@@ -1,12 +1,13 @@
 // The checks of patterns, trees and documents. None has a value.
 use c_answer::answer::Answer;
 use c_numbers::checked;
-use check_document::document;
+use check_identities::whole;
 use check_pattern::pattern;
 use check_tree::tree;
 ghost use mathlib.Core.Path.{_≡_};
-ghost use Rattle.tables.specs.Documents.{doc};
-ghost use Rattle.tables.specs.Checks.{patternCheck, treeCheck, documentCheck};
+ghost use Rattle.tables.specs.Checks.{patternCheck, treeCheck};
+ghost use Rattle.identities.specs.Documents.{document};
+ghost use Rattle.identities.specs.Checks.{wholeCheck};
 ghost use Rattle.c_numbers.specs.Numbers.{ofChecked};
 
 // A pattern of at most `limit` steps: refusals 1, 2, 3, at this table.
@@ -25,10 +26,16 @@ pub extern "C" fn sloefertand_check_tree(t: &[u16], limit: usize, table: usize) 
     checked(tree(t, limit, table))
 }
 
-// A document: 12 for the used count, node by node 4 then 5, 12 for marks.
+// A document: 12 for the used count, node by node 4 then 5, 12 for marks, 12 for identities.
 #[no_mangle]
-pub extern "C" fn sloefertand_check_document(rows: &[u16], marks: &[u8], used: usize) -> Answer
-    ensures { λ a. ⌜ a ≡ ofChecked (documentCheck (doc (now (rows .entry)) (now (marks .entry)) used)) ⌝ }
+pub extern "C" fn sloefertand_v2_check_document(
+    rows: &[u16],
+    marks: &[u8],
+    used: usize,
+    ids: &[u32],
+    next: u32,
+) -> Answer
+    ensures { λ a. ⌜ a ≡ ofChecked (wholeCheck (document (now (rows .entry)) (now (marks .entry)) used (now (ids .entry)) next)) ⌝ }
 {
-    checked(document(rows, marks, used))
+    checked(whole(rows, marks, used, ids, next))
 }

@@ -38,3 +38,7 @@ digitLimit = 10244
 -- names of a list
 abbrev pub nameLimit : ℕ
 nameLimit = 256
+
+-- the greatest number that the next identity can be: 32 bits hold no greater one
+abbrev pub identityLimit : ℕ
+identityLimit = 4294967295

@@ -27,3 +27,6 @@ pub const NAME_LIMIT: usize = 256;
 
 // Numbers that a word can hold.
 pub const WORD_LIMIT: usize = 65536;
+
+// The greatest number that the next identity can be: 32 bits hold no greater one.
+pub const IDENTITY_LIMIT: usize = 4294967295;

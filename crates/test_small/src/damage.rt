@@ -1,11 +1,14 @@
 // Table 3: every single-word damage of some batches, and behind each batch's those of two words.
-use crate::numbering::front;
-use crate::show::number;
-use crate::show::spaced;
-use crate::show::text;
 use crate::two_damages;
 use c_answer::answer::Answer;
 use sloefertand::batches::sloefertand_plan;
+use test_parts::answers::code;
+use test_parts::answers::earlier_than;
+use test_parts::answers::show_answer;
+use test_parts::numbering::front;
+use test_parts::show::number;
+use test_parts::show::spaced;
+use test_parts::show::text;
 
 // The batches, of 5, 2, 1 and 3 frames; the first is the listing of document 01.
 pub(crate) const FIRST: [u16; 31] = [
@@ -51,14 +54,6 @@ pub(crate) const FOURTH: [u16; 20] = [3, 3, 0, 0, 2, 1, 1, 0, 3, 2, 0, 2, 2, 0, 
 // Words of the longest batch, with one doubled.
 const ROOM: usize = 32;
 
-// An answer as one number: its first value, or from 1,000,000 on the refusal's number, table and place, which is below 100,000 for any batch, tree or text here.
-pub(crate) fn code(a: Answer) -> usize {
-    if a.refusal == 0 {
-        return a.first;
-    }
-    a.refusal % 100 * 1000000 + a.table % 10 * 100000 + a.place % 100000
-}
-
 // The answer for a batch, with an output of so many words.
 fn answer(b: &[u16], frames: usize) -> usize {
     let mut out = [0u16; 8];
@@ -66,19 +61,6 @@ fn answer(b: &[u16], frames: usize) -> usize {
         return 0;
     }
     code(sloefertand_plan(b, &mut out[0..frames]))
-}
-
-pub(crate) fn show_answer(a: usize) {
-    if a < 1000000 {
-        text(b"ok ");
-        number(a);
-        text(b"\n");
-        return;
-    }
-    spaced(a / 1000000);
-    spaced(a / 100000 % 10);
-    number(a % 100000);
-    text(b"\n");
 }
 
 // Values that have one answer.
@@ -165,14 +147,6 @@ fn doubled(b: &[u16], w: usize) -> [u16; ROOM] {
         i += 1;
     }
     words
-}
-
-// One place back behind w.
-pub(crate) fn earlier_than(i: usize, w: usize) -> usize {
-    if i <= w {
-        return i;
-    }
-    i - 1
 }
 
 // Word w taken out, and word w doubled.

@@ -1,17 +1,17 @@
 // Table 10, refusals: damaged tables, one at a time and all at once.
-use crate::damage::code;
-use crate::damage::show_answer;
-use crate::numbering::front;
-use crate::numbering::pair;
-use crate::show::eight;
-use crate::show::spaced;
-use crate::show::text;
-use crate::tally::one_more;
-use crate::tally::told;
 use c_answer::answer::Answer;
 use sloefertand::evidence::sloefertand_delete_evidence;
 use sloefertand::evidence::sloefertand_insert_evidence;
 use tables::words::word;
+use test_parts::answers::code;
+use test_parts::answers::show_answer;
+use test_parts::numbering::front;
+use test_parts::numbering::pair;
+use test_parts::show::eight;
+use test_parts::show::spaced;
+use test_parts::show::text;
+use test_parts::tally::one_more;
+use test_parts::tally::told;
 
 // Words of the longest pattern, and of the longest tree.
 const STEP_WORDS: usize = 513;

@@ -1,24 +1,24 @@
 // Table 10: the first node that is lost or new on a proposed tree. First all small trees, with some updates and reads, and with updates drawn for each read.
 use crate::damaged_evidence;
 use crate::large_evidence;
-use crate::long_reads::moved;
-use crate::numbering::INSERTED;
-use crate::numbering::PATTERNS;
-use crate::numbering::SINGLE;
-use crate::numbering::TREES;
-use crate::numbering::front;
-use crate::numbering::pattern;
-use crate::numbering::tree;
-use crate::show::digit;
-use crate::show::eight;
-use crate::show::spaced;
-use crate::show::text;
-use crate::tally::one_more;
-use crate::tally::told;
 use c_answer::answer::Answer;
 use sloefertand::evidence::sloefertand_delete_evidence;
 use sloefertand::evidence::sloefertand_insert_evidence;
 use tables::words::word;
+use test_parts::numbering::INSERTED;
+use test_parts::numbering::PATTERNS;
+use test_parts::numbering::SINGLE;
+use test_parts::numbering::TREES;
+use test_parts::numbering::front;
+use test_parts::numbering::pattern;
+use test_parts::numbering::tree;
+use test_parts::show::digit;
+use test_parts::show::eight;
+use test_parts::show::spaced;
+use test_parts::show::text;
+use test_parts::tally::one_more;
+use test_parts::tally::told;
+use test_parts::ways::moved;
 
 // How many reads small trees have, and how many deletes and inserts.
 const READS: usize = 12;

@@ -1,21 +1,21 @@
 // Table 10, larger trees: with one marked node, and drawn, with patterns along ways up.
-use crate::long_reads::Way;
-use crate::long_reads::moved;
-use crate::long_reads::name;
-use crate::long_reads::steps;
-use crate::numbering::front;
-use crate::numbering::pair;
-use crate::numbering::words_of;
-use crate::rows::first;
-use crate::show::number;
-use crate::show::spaced;
-use crate::show::text;
-use crate::tree_tables::parent;
 use c_answer::answer::Answer;
 use sloefertand::evidence::sloefertand_delete_evidence;
 use sloefertand::evidence::sloefertand_insert_evidence;
 use tables::words::first_word;
 use tables::words::second_word;
+use test_parts::numbering::front;
+use test_parts::numbering::pair;
+use test_parts::numbering::words_of;
+use test_parts::rows::first;
+use test_parts::show::number;
+use test_parts::show::spaced;
+use test_parts::show::text;
+use test_parts::tree_tables::parent;
+use test_parts::ways::Way;
+use test_parts::ways::moved;
+use test_parts::ways::name;
+use test_parts::ways::steps;
 
 // Words of the longest tree, and of the longest pattern.
 const WORDS: usize = 2048;

@@ -4,13 +4,6 @@ use crate::damage::FOURTH;
 use crate::damage::SECOND;
 use crate::damage::THIRD;
 use crate::mode_lines;
-use crate::numbering::front;
-use crate::numbering::front_bytes;
-use crate::put::put;
-use crate::put::put_all;
-use crate::show::number;
-use crate::show::spaced;
-use crate::show::text;
 use crate::two_damages::DAMAGES;
 use crate::two_damages::Damage;
 use crate::two_damages::written;
@@ -20,6 +13,13 @@ use sloefertand::texts::sloefertand_read_line;
 use sloefertand::texts::sloefertand_write_line;
 use tables::words::byte;
 use tables::words::word;
+use test_parts::numbering::front;
+use test_parts::numbering::front_bytes;
+use test_parts::put::put;
+use test_parts::put::put_all;
+use test_parts::show::number;
+use test_parts::show::spaced;
+use test_parts::show::text;
 
 // The damages of a line's text, counted on behind those of a word: its last digit left out, a blank in front of it, an empty line before it.
 const CUT: usize = DAMAGES;

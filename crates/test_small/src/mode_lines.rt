@@ -7,14 +7,14 @@ use crate::line_damage::put_lines;
 use crate::line_damage::show_answer;
 use crate::line_damage::show_behind;
 use crate::line_damage::undamaged;
-use crate::numbering::front_bytes;
-use crate::put::put_all;
-use crate::put::put_instead;
-use crate::show::spaced;
-use crate::show::text;
 use crate::two_damages::DAMAGES;
 use crate::two_damages::Damage;
 use sloefertand::texts::sloefertand_print;
+use test_parts::numbering::front_bytes;
+use test_parts::put::put_all;
+use test_parts::put::put_instead;
+use test_parts::show::spaced;
+use test_parts::show::text;
 
 // The mode line of node mode.
 const MODE: [u16; 2] = [4, 1];

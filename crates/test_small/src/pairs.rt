@@ -1,16 +1,16 @@
 // Table 1: the number of a smallest witness and the deep verdict of every pair of a read and an update.
-use crate::numbering::INSERTED;
-use crate::numbering::PATTERNS;
-use crate::numbering::SINGLE;
-use crate::numbering::front;
-use crate::numbering::pattern;
-use crate::numbering::tree;
-use crate::show::text;
 use c_answer::answer::Answer;
 use sloefertand::verdicts::sloefertand_deep_delete_verdict;
 use sloefertand::verdicts::sloefertand_deep_insert_verdict;
 use sloefertand::verdicts::sloefertand_delete_verdict;
 use sloefertand::verdicts::sloefertand_insert_verdict;
+use test_parts::numbering::INSERTED;
+use test_parts::numbering::PATTERNS;
+use test_parts::numbering::SINGLE;
+use test_parts::numbering::front;
+use test_parts::numbering::pattern;
+use test_parts::numbering::tree;
+use test_parts::show::text;
 
 // The nodes of the witness, 0 for none; 9 where it is refused.
 fn nodes(a: Answer) -> usize {

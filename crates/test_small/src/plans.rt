@@ -1,14 +1,14 @@
 // Table 4: plans of random batches from a fixed seed, in both modes.
-use crate::numbering::INSERTED;
-use crate::numbering::PATTERNS;
-use crate::numbering::SINGLE;
-use crate::numbering::front;
-use crate::numbering::pattern;
-use crate::numbering::tree;
-use crate::show::digit;
-use crate::show::text;
 use sloefertand::batches::sloefertand_plan;
 use sloefertand::batches::sloefertand_plan_in;
+use test_parts::numbering::INSERTED;
+use test_parts::numbering::PATTERNS;
+use test_parts::numbering::SINGLE;
+use test_parts::numbering::front;
+use test_parts::numbering::pattern;
+use test_parts::numbering::tree;
+use test_parts::show::digit;
+use test_parts::show::text;
 
 // How many batches.
 const BATCHES: usize = 2000;

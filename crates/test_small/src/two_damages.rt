@@ -1,12 +1,12 @@
 // Table 3, two words at once: every two damages of some batches.
 use crate::damage::word_of;
-use crate::digest::refusal;
-use crate::digest::taken;
-use crate::numbering::front;
-use crate::show::eight;
-use crate::show::spaced;
-use crate::show::text;
 use sloefertand::batches::sloefertand_plan;
+use test_parts::digest::refusal;
+use test_parts::digest::taken;
+use test_parts::numbering::front;
+use test_parts::show::eight;
+use test_parts::show::spaced;
+use test_parts::show::text;
 
 // Words of the longest batch, with two doubled.
 const ROOM: usize = 33;

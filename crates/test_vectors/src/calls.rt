@@ -7,15 +7,16 @@ use check::same;
 use sloefertand::batches::sloefertand_plan;
 use sloefertand::batches::sloefertand_plan_in;
 use sloefertand::batches::sloefertand_step;
-use sloefertand::checking::sloefertand_check_document;
 use sloefertand::checking::sloefertand_check_pattern;
 use sloefertand::checking::sloefertand_check_tree;
+use sloefertand::checking::sloefertand_v2_check_document;
 use sloefertand::evidence::sloefertand_delete_evidence;
 use sloefertand::evidence::sloefertand_insert_evidence;
-use sloefertand::operations::sloefertand_delete;
-use sloefertand::operations::sloefertand_insert;
+use sloefertand::operations::sloefertand_compact;
 use sloefertand::operations::sloefertand_plain_reading;
-use sloefertand::operations::sloefertand_read;
+use sloefertand::operations::sloefertand_v2_delete;
+use sloefertand::operations::sloefertand_v2_insert;
+use sloefertand::operations::sloefertand_v2_read;
 use sloefertand::patterns::sloefertand_read_pattern;
 use sloefertand::patterns::sloefertand_write_pattern;
 use sloefertand::texts::sloefertand_print;
@@ -28,62 +29,110 @@ use sloefertand::verdicts::sloefertand_deep_insert_verdict;
 use sloefertand::verdicts::sloefertand_delete_verdict;
 use sloefertand::verdicts::sloefertand_insert_verdict;
 
-// The checks of a pattern and of a tree, by a limit and a table, and of a document, by its used count.
-pub(crate) fn check(name: &[u8], r: &[u16], x: &[u16], t: &[u16], m: &[u8], u: usize, v: usize) {
+// The used count of a document, and its next identity.
+pub(crate) struct Counts {
+    pub(crate) used: usize,
+    pub(crate) next: u32,
+}
+
+// The checks of a pattern and of a tree, by a limit and a table.
+pub(crate) fn check(name: &[u8], r: &[u16], x: &[u16], u: usize, v: usize) {
     if same(name, b"check pattern") {
         answer(sloefertand_check_pattern(r, u, v), 0);
         return;
     }
     if same(name, b"check tree") {
         answer(sloefertand_check_tree(x, u, v), 0);
-        return;
-    }
-    if same(name, b"check document") {
-        answer(sloefertand_check_document(t, m, u), 0);
     }
 }
 
-// Reading a document, and the plain reading of a tree.
-pub(crate) fn read(name: &[u8], r: &[u16], x: &[u16], t: &[u16], m: &[u8], u: usize, y: &mut [u8]) {
-    if same(name, b"read") {
-        answer(sloefertand_read(r, t, m, u, y), 0);
-        return;
-    }
+// The plain reading of a tree.
+pub(crate) fn read_plain(name: &[u8], r: &[u16], x: &[u16], y: &mut [u8]) {
     if same(name, b"plain reading") {
         answer(sloefertand_plain_reading(r, x, y), 0);
     }
 }
 
-// Deleting; the used count stays.
-pub(crate) fn delete(name: &[u8], p: &[u16], t: &[u16], m: &mut [u8], u: usize) {
+// The check of a document, and reading it.
+pub(crate) fn read(
+    name: &[u8],
+    r: &[u16],
+    t: &[u16],
+    m: &[u8],
+    i: &[u32],
+    y: &mut [u8],
+    c: Counts,
+) {
+    if same(name, b"check document") {
+        answer(sloefertand_v2_check_document(t, m, c.used, i, c.next), 0);
+        return;
+    }
+    if same(name, b"read") {
+        answer(sloefertand_v2_read(r, t, m, c.used, i, c.next, y), 0);
+    }
+}
+
+// Deleting; the used count and the next identity stay.
+pub(crate) fn delete(name: &[u8], p: &[u16], t: &[u16], m: &mut [u8], i: &[u32], c: Counts) {
     if same(name, b"delete") {
-        answer(sloefertand_delete(p, t, m, u), 1);
+        answer(sloefertand_v2_delete(p, t, m, c.used, i, c.next), 1);
     }
 }
 
-// The used count after an insert: a refused one leaves it.
-fn used(a: Answer, u: usize) -> usize {
+// The used count and the next identity after an insert: a refused one leaves them.
+fn grown(a: Answer, c: Counts) -> Counts {
     if a.refusal == 0 {
-        return a.second;
+        return Counts {
+            used: a.second,
+            next: (a.third % 4294967296) as u32,
+        };
     }
-    u
+    c
 }
 
-// Inserting; the used count after it.
+// Inserting; the used count and the next identity after it.
 pub(crate) fn insert(
     name: &[u8],
     p: &[u16],
     x: &[u16],
     t: &mut [u16],
     m: &mut [u8],
-    u: usize,
-) -> usize {
+    i: &mut [u32],
+    c: Counts,
+) -> Counts {
     if same(name, b"insert") {
-        let a = sloefertand_insert(p, x, t, m, u);
-        answer(a, 2);
-        return used(a, u);
+        let a = sloefertand_v2_insert(p, x, t, m, c.used, i, c.next);
+        answer(a, 3);
+        return grown(a, c);
     }
-    u
+    c
+}
+
+// The used count after a compaction: a refused one leaves it.
+fn closed(a: Answer, c: Counts) -> Counts {
+    if a.refusal == 0 {
+        return Counts {
+            used: a.first,
+            next: c.next,
+        };
+    }
+    c
+}
+
+// Compacting; the used count after it.
+pub(crate) fn compact(
+    name: &[u8],
+    t: &mut [u16],
+    m: &mut [u8],
+    i: &mut [u32],
+    c: Counts,
+) -> Counts {
+    if same(name, b"compact") {
+        let a = sloefertand_compact(t, m, c.used, i, c.next);
+        answer(a, 2);
+        return closed(a, c);
+    }
+    c
 }
 
 // The verdicts.

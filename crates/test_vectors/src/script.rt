@@ -1,5 +1,7 @@
-// A script, line by line. Tables r, p, x, t have words, tables l, m, y bytes; u and v are numbers.
+// A script, line by line. Tables r, p, x, t have words, tables l, m, y bytes, table i identities; u, v and n are numbers.
 use crate::calls;
+use crate::calls::Counts;
+use crate::identities;
 use crate::numbers::bytes;
 use crate::numbers::number;
 use crate::numbers::put_byte;
@@ -9,7 +11,7 @@ use check::same;
 ghost use mathlib.Core.Path.{_≡_};
 ghost use lib.ListN.{length};
 
-// How much of each table is in use, and the two numbers.
+// How much of each table is in use, and the three numbers.
 struct Sizes {
     r: usize,
     p: usize,
@@ -18,11 +20,13 @@ struct Sizes {
     l: usize,
     m: usize,
     y: usize,
+    i: usize,
     u: usize,
     v: usize,
+    n: u32,
 }
 
-// Room for a table of words, and for one of bytes.
+// Room for a table of words, for one of bytes, and for identities.
 fn word_room() -> [u16; 16640]
     ensures { λ r. ⌜ length r ≡ 16640 ⌝ }
 {
@@ -35,12 +39,26 @@ fn byte_room() -> [u8; 69632]
     [0; 69632]
 }
 
+fn identity_room() -> [u32; 16640]
+    ensures { λ r. ⌜ length r ≡ 16640 ⌝ }
+{
+    [0; 16640]
+}
+
 // The words of a table that are in use.
 fn front(t: &[u16], n: usize) -> &[u16] {
     if t.len() < n {
         return t;
     }
     &t[0..n]
+}
+
+// The identities that are in use.
+fn front_identities(i: &[u32], n: usize) -> &[u32] {
+    if i.len() < n {
+        return i;
+    }
+    &i[0..n]
 }
 
 // Whether a line begins with this byte.
@@ -123,8 +141,30 @@ fn listed(line: &[u8], l: &mut [u8], n: usize) -> usize {
     filled_bytes(line, b'l', l, n)
 }
 
+// Fills table i: by its own line, or with 0, 1, 2 and so on where a line fills table m, one for each mark.
+fn named(line: &[u8], i: &mut [u32], n: usize, marks: usize) -> usize {
+    if begins(line, b'm') {
+        return identities::counted(i, marks);
+    }
+    if begins(line, b'i') {
+        return identities::numbers(line, i);
+    }
+    n
+}
+
+// The next identity: by its own line, or the number of marks where a line fills table m.
+fn next(line: &[u8], n: u32, marks: usize) -> u32 {
+    if begins(line, b'm') {
+        return (marks % 4294967296) as u32;
+    }
+    if begins(line, b'n') {
+        return identities::number(line);
+    }
+    n
+}
+
 // Prints a heading as it stands, or shows a table that a call can change.
-fn reveal(line: &[u8], t: &[u16], m: &[u8], y: &[u8], s: Sizes) {
+fn reveal(line: &[u8], t: &[u16], m: &[u8], y: &[u8], i: &[u32], s: Sizes) {
     if begins(line, b':') {
         show::heading(rest(line));
         return;
@@ -139,23 +179,26 @@ fn reveal(line: &[u8], t: &[u16], m: &[u8], y: &[u8], s: Sizes) {
     }
     if same(line, b"=y") {
         show::row(b"  y", show::front(y, s.y));
+        return;
+    }
+    if same(line, b"=i") {
+        show::identities(b"  i", front_identities(i, s.i));
     }
 }
 
-// A check, a read, a verdict, another shop's witness or a plan.
+// A check, a plain reading, a verdict, another shop's witness or a plan.
 fn ask(
     name: &[u8],
     r: &[u16],
     p: &[u16],
     x: &[u16],
     t: &mut [u16],
-    m: &[u8],
     y: &mut [u8],
     u: usize,
     v: usize,
 ) {
-    calls::check(name, r, x, t, m, u, v);
-    calls::read(name, r, x, t, m, u, y);
+    calls::check(name, r, x, u, v);
+    calls::read_plain(name, r, x, y);
     calls::judge(name, r, p, x, t);
     calls::evidence(name, r, p, x, t);
     calls::plan(name, x, t, u, v);
@@ -178,24 +221,25 @@ fn spell(
     calls::print(name, m, y);
 }
 
-// One of these or an update; the number u after it.
-fn tell(
+// A document's check, a read, an update or a compaction; the numbers u and n after it.
+fn treat(
     name: &[u8],
     r: &[u16],
     p: &[u16],
     x: &[u16],
     t: &mut [u16],
-    l: &[u8],
     m: &mut [u8],
     y: &mut [u8],
-    u: usize,
-) -> usize {
-    spell(name, r, x, t, l, m, y, u);
-    calls::delete(name, p, t, m, u);
-    calls::insert(name, p, x, t, m, u)
+    i: &mut [u32],
+    c: Counts,
+) -> Counts {
+    calls::read(name, r, t, m, i, y, c);
+    calls::delete(name, p, t, m, i, c);
+    let after = calls::insert(name, p, x, t, m, i, c);
+    calls::compact(name, t, m, i, after)
 }
 
-// The call of this name on the tables as far as they are in use; the number u after it.
+// The call of this name on the tables as far as they are in use; the numbers u and n after it.
 fn call(
     name: &[u8],
     r: &[u16],
@@ -205,15 +249,17 @@ fn call(
     l: &[u8],
     m: &mut [u8],
     y: &mut [u8],
-    u: usize,
+    i: &mut [u32],
+    c: Counts,
     v: usize,
-) -> usize {
+) -> Counts {
     show::text(b"  ");
     show::text(name);
-    ask(name, r, p, x, t, m, y, u, v);
-    let used = tell(name, r, p, x, t, l, m, y, u);
+    ask(name, r, p, x, t, y, c.used, v);
+    spell(name, r, x, t, l, m, y, c.used);
+    let after = treat(name, r, p, x, t, m, y, i, c);
     show::text(b"\n");
-    used
+    after
 }
 
 // The same where a line asks for it.
@@ -226,22 +272,31 @@ fn called(
     l: &[u8],
     m: &mut [u8],
     y: &mut [u8],
+    i: &mut [u32],
     s: Sizes,
-) -> usize {
+) -> Counts {
     let words = s.t;
     let marks = s.m;
     let bytes = s.y;
+    let names = s.i;
+    let c = Counts {
+        used: s.u,
+        next: s.n,
+    };
     if !begins(line, b'!') {
-        return s.u;
+        return c;
     }
     if t.len() < words {
-        return s.u;
+        return c;
     }
     if m.len() < marks {
-        return s.u;
+        return c;
     }
     if y.len() < bytes {
-        return s.u;
+        return c;
+    }
+    if i.len() < names {
+        return c;
     }
     call(
         rest(line),
@@ -252,12 +307,63 @@ fn called(
         show::front(l, s.l),
         &mut m[0..marks],
         &mut y[0..bytes],
-        s.u,
+        &mut i[0..names],
+        c,
         s.v,
     )
 }
 
-// Fills the table of the letter that a line begins with.
+// Fills the table of words of the letter that a line begins with.
+fn refilled_words(
+    line: &[u8],
+    r: &mut [u16],
+    p: &mut [u16],
+    x: &mut [u16],
+    t: &mut [u16],
+    s: Sizes,
+) -> Sizes {
+    let mut after = s;
+    after.r = filled(line, b'r', r, s.r);
+    after.p = filled(line, b'p', p, s.p);
+    after.x = filled(line, b'x', x, s.x);
+    after.t = filled(line, b't', t, s.t);
+    after
+}
+
+// Fills the table of bytes.
+fn refilled_bytes(line: &[u8], l: &mut [u8], m: &mut [u8], y: &mut [u8], s: Sizes) -> Sizes {
+    let mut after = s;
+    after.l = listed(line, l, s.l);
+    after.m = written(line, m, s.m);
+    after.y = filled_bytes(line, b'y', y, s.y);
+    after
+}
+
+// Fills the row of identities, and says the numbers.
+fn renumbered(line: &[u8], i: &mut [u32], s: Sizes, c: Counts) -> Sizes {
+    let mut after = s;
+    after.i = named(line, i, s.i, s.m);
+    after.u = said(line, b'u', c.used);
+    after.v = said(line, b'v', s.v);
+    after.n = next(line, c.next, s.m);
+    after
+}
+
+// Fills a table of bytes or the row of identities, and says the numbers.
+fn refilled_rest(
+    line: &[u8],
+    l: &mut [u8],
+    m: &mut [u8],
+    y: &mut [u8],
+    i: &mut [u32],
+    s: Sizes,
+    c: Counts,
+) -> Sizes {
+    let bytes = refilled_bytes(line, l, m, y, s);
+    renumbered(line, i, bytes, c)
+}
+
+// Fills a table, where a line asks for it.
 fn refilled(
     line: &[u8],
     r: &mut [u16],
@@ -267,37 +373,29 @@ fn refilled(
     l: &mut [u8],
     m: &mut [u8],
     y: &mut [u8],
+    i: &mut [u32],
     s: Sizes,
-    u: usize,
+    c: Counts,
 ) -> Sizes {
-    Sizes {
-        r: filled(line, b'r', r, s.r),
-        p: filled(line, b'p', p, s.p),
-        x: filled(line, b'x', x, s.x),
-        t: filled(line, b't', t, s.t),
-        l: listed(line, l, s.l),
-        m: written(line, m, s.m),
-        y: filled_bytes(line, b'y', y, s.y),
-        u: said(line, b'u', u),
-        v: said(line, b'v', s.v),
-    }
+    let words = refilled_words(line, r, p, x, t, s);
+    refilled_rest(line, l, m, y, i, words, c)
 }
 
-// Shows or fills a table, where a line asks for it.
-fn revealed(
+// Shows a table or calls, where a line asks for it; the numbers u and n after it.
+fn shown(
     line: &[u8],
-    r: &mut [u16],
-    p: &mut [u16],
-    x: &mut [u16],
+    r: &[u16],
+    p: &[u16],
+    x: &[u16],
     t: &mut [u16],
-    l: &mut [u8],
+    l: &[u8],
     m: &mut [u8],
     y: &mut [u8],
+    i: &mut [u32],
     s: Sizes,
-    u: usize,
-) -> Sizes {
-    reveal(line, t, m, y, s);
-    refilled(line, r, p, x, t, l, m, y, s, u)
+) -> Counts {
+    reveal(line, t, m, y, i, s);
+    called(line, r, p, x, t, l, m, y, i, s)
 }
 
 // What a line asks for. No two of these begin with the same byte.
@@ -310,10 +408,11 @@ fn obeyed(
     l: &mut [u8],
     m: &mut [u8],
     y: &mut [u8],
+    i: &mut [u32],
     s: Sizes,
 ) -> Sizes {
-    let u = called(line, r, p, x, t, l, m, y, s);
-    revealed(line, r, p, x, t, l, m, y, s, u)
+    let c = shown(line, r, p, x, t, l, m, y, i, s);
+    refilled(line, r, p, x, t, l, m, y, i, s, c)
 }
 
 // The line that ends at this place, empty where none does.
@@ -350,6 +449,7 @@ fn each(
     l: &mut [u8],
     m: &mut [u8],
     y: &mut [u8],
+    i: &mut [u32],
 ) {
     let mut s = Sizes {
         r: 0,
@@ -359,15 +459,17 @@ fn each(
         l: 0,
         m: 0,
         y: 0,
+        i: 0,
         u: 0,
         v: 0,
+        n: 0,
     };
     let mut from = 0;
-    let mut i = 0;
-    while i < input.len() {
-        let at = i;
-        i += 1;
-        s = obeyed(line_at(input, from, at), r, p, x, t, l, m, y, s);
+    let mut k = 0;
+    while k < input.len() {
+        let at = k;
+        k += 1;
+        s = obeyed(line_at(input, from, at), r, p, x, t, l, m, y, i, s);
         from = start(input, from, at);
     }
 }
@@ -380,6 +482,7 @@ pub(crate) fn run(input: &[u8]) {
     let mut l = byte_room();
     let mut m = byte_room();
     let mut y = byte_room();
+    let mut i = identity_room();
     each(
         input,
         &mut r,
@@ -389,5 +492,6 @@ pub(crate) fn run(input: &[u8]) {
         &mut l,
         &mut m,
         &mut y,
+        &mut i,
     );
 }

@@ -33,6 +33,9 @@ fn values(a: Answer, count: usize) {
         return;
     }
     number(a.third);
+    if count == 3 {
+        return;
+    }
     number(a.fourth);
 }
 
@@ -84,6 +87,28 @@ pub(crate) fn row(name: &[u8], m: &[u8]) {
     while i < m.len() {
         byte_at(m, i);
         i += 1;
+    }
+    text(b"\n");
+}
+
+// An identity as a number.
+fn wide(id: u32) -> usize {
+    id as usize
+}
+
+fn identity_at(i: &[u32], k: usize) {
+    if k < i.len() {
+        number(wide(i[k]));
+    }
+}
+
+// The identities of a row.
+pub(crate) fn identities(name: &[u8], i: &[u32]) {
+    text(name);
+    let mut k = 0;
+    while k < i.len() {
+        identity_at(i, k);
+        k += 1;
     }
     text(b"\n");
 }

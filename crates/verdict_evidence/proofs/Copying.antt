@@ -23,8 +23,8 @@ use Rattle.selection.proofs.Presence.{is-present, present-used}
 use Rattle.selection.proofs.Up.{Up, top, node, up-is, up-of}
 use Rattle.selection.proofs.Keeping.{copy-selected}
 use Rattle.selection.proofs.Grafting.{copied-below, graft-used, old-mark, copy-mark, old-or-copied, graft-marks-length, graft-copy, graft-sound}
-use Rattle.check_read.specs.Readable.{readCheck}
-use Rattle.doc_read.specs.Reading.{Read}
+use Rattle.check_read.specs.Readable.{readTablesCheck}
+use Rattle.doc_read.specs.Reading.{ReadTables}
 use Rattle.doc_copy.specs.Copying.{fitting, copied}
 use Rattle.doc_copy.proofs.Laws.{copied-graft}
 use Rattle.verdict_evidence.specs.Finding.{picks}
@@ -143,7 +143,7 @@ module _ (r x t : List ℕ) (q : ℕ) (hung : Hung r x t q) (tags : Bits16 x) (w
 
   -- and the row of a read of it picks the nodes of the copy
   pub row-picked : {words′ marks′ start row : List ℕ} {used : ℕ} {answer : Checked} → doc words′ marks′ used ≡ copied x q (doc rows marks (nodes t))
-      → Blank (treeLimit + treeLimit) start → Read r 1 (doc words′ marks′ used) start row answer → Picked r x t q row
+      → Blank (treeLimit + treeLimit) start → ReadTables r 1 (doc words′ marks′ used) start row answer → Picked r x t q row
   unfolding before picks
   row-picked {start = start} {row = row} {answer = answer} e room read =
       record {

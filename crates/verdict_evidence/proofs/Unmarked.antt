@@ -20,11 +20,11 @@ use Rattle.selection.specs.Ways.{selected}
 use Rattle.selection.specs.Operations.{readRow, struck}
 use Rattle.selection.proofs.Lists.{getD-tab-before}
 use Rattle.selection.proofs.Deleting.{deleted-mark}
-use Rattle.check_read.specs.Readable.{readCheck}
-use Rattle.doc_read.specs.Reading.{Read}
+use Rattle.check_read.specs.Readable.{readTablesCheck}
+use Rattle.doc_read.specs.Reading.{ReadTables}
 use Rattle.doc_read.specs.Wanted.{standsAt, wantedRow, ReadAt}
 use Rattle.doc_updates.specs.Asking.{Chosen}
-use Rattle.doc_updates.specs.Updating.{deleteCheck, Delete}
+use Rattle.doc_updates.specs.Updating.{deleteTablesCheck, DeleteTables}
 use Rattle.outcomes.specs.declared.updates.Deleted.{Deleted}
 use Rattle.verdict_evidence.specs.Rows.{Blank, Cut, Standing}
 
@@ -38,8 +38,8 @@ blank-of n m e = record { long = length-replicate {A = ℕ} n 0 ∙ e; each = λ
 
 -- the row of a read of an accepted document
 pub row-fine : (p : List ℕ) (table : ℕ) (d : Doc) → documentCheck d ≡ Fine → patternCheck p stepLimit table ≡ Fine → {before row : List ℕ} {answer : Checked} → d .used ≤ length before
-    → Read p table d before row answer → (v : ℕ) → v < d .used → getD row v 0 ≡ cond (selected p d v) 1 0
-unfolding readCheck outputCheck readRow
+    → ReadTables p table d before row answer → (v : ℕ) → v < d .used → getD row v 0 ≡ cond (selected p d v) 1 0
+unfolding readTablesCheck outputCheck readRow
 row-fine p table d document pattern {before} room read v h =
     rw (read .row, read .answered, document, pattern, le-leb (d .used) (length before) room)
     (getD-tab-before (λ u. cond (selected p d u) 1 0) (d .used) (drop (d .used) before) v h)
@@ -85,14 +85,14 @@ module _ (t : List ℕ) {marks : List ℕ} (blank : Blank treeLimit marks) where
 
     -- the row of a read of it
     pub row-chosen : (p : List ℕ) (table : ℕ) → patternCheck p stepLimit table ≡ Fine → {before row : List ℕ} {answer : Checked} → Blank treeLimit before
-        → Read p table (doc t marks (nodes t)) before row answer → Chosen p (bare t) row
+        → ReadTables p table (doc t marks (nodes t)) before row answer → Chosen p (bare t) row
     row-chosen p table pattern {before} room read v h =
         row-fine p table (doc t marks (nodes t)) unmarked-fine pattern (rw (room .long) most) read v h ∙ rw (unmarked-selected p v)
 
     -- and of a reading at wanted steps
     pub row-standing : (p : List ℕ) (table : ℕ) → patternCheck p stepLimit table ≡ Fine → {wanted before row : List ℕ} {answer : Checked} → Blank treeLimit before
         → ReadAt p table (doc t marks (nodes t)) wanted before row answer → Standing p wanted t row
-    unfolding readCheck outputCheck wantedRow
+    unfolding readTablesCheck outputCheck wantedRow
     row-standing p table pattern {wanted} {before} room read =
         record {
           byte = λ v h.
@@ -101,15 +101,15 @@ module _ (t : List ℕ) {marks : List ℕ} (blank : Blank treeLimit marks) where
         }
 
     -- the marks that a delete leaves on it
-    delete-fine : (p : List ℕ) → patternCheck p stepLimit 2 ≡ Fine → 1 < steps p → deleteCheck p (doc t marks (nodes t)) ≡ Fine
-    unfolding deleteCheck
+    delete-fine : (p : List ℕ) → patternCheck p stepLimit 2 ≡ Fine → 1 < steps p → deleteTablesCheck p (doc t marks (nodes t)) ≡ Fine
+    unfolding deleteTablesCheck
     delete-fine p pattern two = rw (unmarked-fine, pattern, lt-ltb 1 (steps p) two)
 
     unmarked-present : (v : ℕ) → v < nodes t → present (doc t marks (nodes t)) v ≡ true
     unmarked-present v h = rw (lt-ltb v (nodes t) h, blank .each v)
 
     pub row-cut : (p : List ℕ) → patternCheck p stepLimit 2 ≡ Fine → 1 < steps p → {after : List ℕ} {answer : Deleted}
-        → Delete p (doc t marks (nodes t)) marks after answer → Cut p t after
+        → DeleteTables p (doc t marks (nodes t)) marks after answer → Cut p t after
     unfolding struck
     row-cut p pattern two d v h =
         rw (d .marks, delete-fine p pattern two)

@@ -1,5 +1,5 @@
 // The nodes of a proposed tree that a pattern selects, those at which steps of it stand, and those that a delete removes. None was removed before.
-use doc_delete::delete;
+use doc_delete::deleting;
 use doc_read::read::reading;
 use doc_read::read::reading_at;
 use tables::limits::TREE_LIMIT;
@@ -48,6 +48,6 @@ pub(crate) fn removed_row(p: &[u16], t: &[u16]) -> [u8; TREE_LIMIT]
     ensures { λ row. ⌜ Cut (now (p .entry)) (now (t .entry)) row ⌝ }
 {
     let mut marks = none();
-    delete(p, t, &mut marks, t.len() / 2);
+    deleting(p, t, &mut marks, t.len() / 2);
     marks
 }

@@ -1,4 +1,4 @@
--- The copies and the new used count, or the refusal.
+-- The copies, the new used count and the new next identity, or the refusal.
 use borrow.Author.Needs.{needs}
 use Rattle.c_numbers.specs.Numbers.{ofInserted}
 use Rattle.c_answer.proofs.Shown.{of-case}

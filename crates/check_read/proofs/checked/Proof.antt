@@ -1,12 +1,12 @@
 -- The document first, then the rest.
 use borrow.Author.Needs.{needs}
 use Rattle.tables.proofs.Branches.{then-on, then-off}
-use Rattle.check_read.specs.Readable.{readCheck}
+use Rattle.check_read.specs.Readable.{readTablesCheck}
 use Rattle.check_read.proofs.checked.Statement.{statement}
 use Rattle.check_read.proofs.checked.Tie as tie
 
 pub checked-spec : {M : Type 1} → statement M
-unfolding readCheck
+unfolding readTablesCheck
 checked-spec =
     tie.close
     (tie.spec

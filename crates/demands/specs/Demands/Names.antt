@@ -1,5 +1,5 @@
 -- The names that the page of the demands cites: where each is defined and, of a promise, which function makes it. An exported function, sloefertand_ and the
--- call's name, promises the same, by the numbers of the answer.
+-- call's name, or sloefertand_v2_ and that of a call that takes identities, promises the same, by the numbers of the answer.
 
 -- numbers, lists and logic, of the kit's library; Perm xs ys: ys has what xs has, in some order
 pub use Prim.Native.Nat.{ℕ, _+_, _*_, _-_, _/_, _<_, _≤_}
@@ -16,11 +16,11 @@ pub use Rattle.tables.specs.Documents.{Doc, doc, bare, mark, present, Sound}
 pub use Rattle.tables.specs.declared.refusal.Refusal.{Refusal}
 pub use Rattle.tables.specs.declared.refusal.Checked.{Checked}
 pub use Rattle.tables.specs.declared.refusal.Checked.the-variants.{Fine, Refused}
-pub use Rattle.tables.specs.Checks.{_then_, refuse, outputCheck, patternCheck, treeCheck, documentCheck}
+pub use Rattle.tables.specs.Checks.{_then_, refuse, outputCheck, patternCheck, treeCheck}
 -- the numbers that go out to C: what each exported function returns
 pub use Rattle.c_answer.specs.declared.answer.Answer.{Answer}
 pub use Rattle.c_answer.specs.Answers.{refusing, Told}
-pub use Rattle.c_numbers.specs.Numbers.{ofChecked, ofDeleted, ofInserted, ofVerdict, ofDeeply, ofEvidence}
+pub use Rattle.c_numbers.specs.Numbers.{ofChecked, ofDeleted, ofInserted, ofCompacted, ofVerdict, ofDeeply, ofEvidence}
 pub use Rattle.c_numbers.specs.Numbers.{ofStepped, ofPlanned, ofParsed, ofSpelled, ofPrinted}
 -- selection: by embeddings, in rows, computed
 pub use Rattle.selection.specs.Lists.{count}
@@ -28,17 +28,27 @@ pub use Rattle.selection.specs.Embeddings.{Selects}
 pub use Rattle.selection.specs.Showing.{SameNodes, SameBelow}
 pub use Rattle.selection.specs.Rows.{Row}
 pub use Rattle.selection.specs.Ways.{selected}
-pub use Rattle.selection.specs.Operations.{fits}
--- documents: PlainRead is promised by plain_reading, Read by read, Delete by delete, Insert by insert
+pub use Rattle.selection.specs.Operations.{copies}
+-- documents with identities: wholeCheck is promised by whole and by check_document; what an update does to them, and the sets of identities that a read selects
+pub use Rattle.identities.specs.Documents.{Document, document as documentOf, identity, Identified, SoundDocument}
+pub use Rattle.identities.specs.Checks.{identitiesCheck, wholeCheck}
+pub use Rattle.identities.specs.Updates.{afterIn as after-in, nameable, roomOf, fitsIn}
+pub use Rattle.identities.specs.Compaction.{dropped, compacted}
+pub use Rattle.identities.specs.Showing.{SameIdentities, SameIdentitiesBelow}
+pub use Rattle.identities.specs.Conflict.{DiffersIn, ConflictIn}
+-- documents: PlainRead is promised by plain_reading, Read by read, Delete by delete, Insert by insert, Compact by compact
 pub use Rattle.check_plain.specs.Bare.{plainCheck}
 pub use Rattle.doc_plain.specs.Plain.{PlainRead}
 pub use Rattle.check_read.specs.Readable.{readCheck}
 pub use Rattle.doc_read.specs.Reading.{Read}
 pub use Rattle.doc_updates.specs.Updating.{deleteCheck, insertCheck, deleteRefusal, Delete, Insert}
+pub use Rattle.doc_compact.specs.Compacting.{Compact}
+pub use Rattle.outcomes.specs.declared.updates.Compacted.{Compacted}
+pub use Rattle.outcomes.specs.declared.updates.Compacted.the-variants as closing
 pub use Rattle.outcomes.specs.declared.updates.Deleted.{Deleted}
 pub use Rattle.outcomes.specs.declared.updates.Deleted.the-variants as deleted
 pub use Rattle.outcomes.specs.declared.updates.Inserted.the-variants as inserted
-pub use Rattle.demands.specs.Updates.{DeletedBy, AllDeletedBy, InsertedBy}
+pub use Rattle.demands.specs.Updates.{DeletedBy, AllDeletedBy, InsertedBy, NamedBy, Compacts, ClosedBy}
 -- verdicts: NodeVerdict is promised by delete_verdict and insert_verdict, DeepVerdict by deep_delete_verdict and deep_insert_verdict, Checks by
 -- delete_evidence and insert_evidence
 pub use Rattle.conflict.specs.Conflict.{Update, delete, insert, pattern, after as after-update, UpdateBits, Differs, Witness, Conflict, Deep, SmallestWitness, Chain}
@@ -69,9 +79,11 @@ pub use Rattle.outcomes.specs.declared.plans.Planned.{Planned}
 pub use Rattle.outcomes.specs.declared.plans.Planned.the-variants as planned
 -- orders of a batch, and a batch run call by call: when two runs give the same
 pub use Rattle.order.specs.Order.{Stands, Before, own}
-pub use Rattle.order_calls.specs.Calls.{Reply, Called, called, Run, Has, Runs, NoRoom, Works, SameRuns}
+pub use Rattle.order_calls.specs.Calls.{Reply, Called, called, Run, Has, Runs, NoRoom, NoIdentities, Works, SameRuns}
 -- deletes called one after another, each call by Delete
-pub use Rattle.order_deletes.specs.Deletes.{Deletes, total, CalledInTurn, abc, a/b, a//c}
+pub use Rattle.order_deletes.specs.Deletes.{withMarks, Deletes, total, CalledInTurn, abc, a/b, a//c}
+-- a batch run after a compaction and without it: what is the same, but for the numbers of nodes
+pub use Rattle.order_compaction.specs.Numbers.{SameBatch, Roomy, Refuses}
 -- installations with other limits: their checks, and what one answers to what another accepts
 pub use Rattle.older.specs.Installations.{Installation, ours, before-longer, Within, longest, frameIn, takeIn, batchIn, planIn, pairIn, verdictIn}
 pub use Rattle.older.specs.Answers.{toFrame, toLine, longRead}

@@ -1,22 +1,28 @@
--- The checks first; then the selected nodes are struck, or nothing changes.
+-- Deleting on the tables where the identities are right; else the document's refusal.
 use borrow.Author.Needs.{needs}
-use native.Mathlib.Omega.{arith}
-use Rattle.doc_delete.proofs.Promises.{strikable, delete-done, delete-refused}
+use Rattle.check_identities.proofs.Refusing.{found-right, found-wrong}
+use Rattle.doc_updates.proofs.Deletes.{delete-tables, delete-refused-whole}
 use Rattle.doc_delete.proofs.delete.Statement.{statement}
 use Rattle.doc_delete.proofs.delete.Tie as tie
+
+returns : tie.Need-returns
+returns c =
+    delete-tables (found-right _ (c .before .before .before .before .before .before .identities .ensures) (c .before .before .before .before .enum-told .given .1)) (c .before .before .deleting .ensures)
+
+returns-2 : tie.Need-returns-2
+returns-2 c =
+    delete-refused-whole (found-wrong _ (c .before .before .before .before .before .identities .ensures) (c .before .before .before .r .given .1) (c .refusal-before .ensures))
 
 pub delete-spec : {M : Type 1} → statement M
 delete-spec =
     tie.close
     (tie.spec
+    (λ c κs. search needs)
     (λ c. search needs)
     (λ c κs. search needs)
     (λ c. search needs)
+    (λ c κs. search needs)
     (λ c. search needs)
-    (λ c κs. strikable _ _ (c .before .before .before .before .before .asked .ensures) (c .before .before .enum-told .given .1)
-    (λ i. omega (arith, c .before .before .before .before .before .before .before .before .before .shared-slice-known2 .given i)) (search needs))
+    returns
     (λ c. search needs)
-    (λ c. search needs)
-    (λ c. delete-done _ _ (c .before .before .before .before .before .before .before .before .before .asked .ensures) (c .before .before .before .before .before .before .enum-told .given .1) (c .before .before .before .strike .ensures))
-    (λ c. search needs)
-    (λ c. delete-refused _ _ (c .before .before .before .before .asked .ensures) (c .before .r .given .1)))
+    returns-2)

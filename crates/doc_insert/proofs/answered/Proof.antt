@@ -11,8 +11,9 @@ answered-spec =
     (tie.spec
     (λ c. omega (arith, product-small (c .pre)))
     (λ c. omega (arith, product-small (c .pre)))
+    (λ c. omega (arith, product-small (c .pre)))
     (λ c κs. search needs)
     (λ c. search needs)
     (λ c. search needs)
-    (λ c. answer-on _ _ (c .before .before .fitting .ensures) (c .enum-told .given .1))
-    (λ c. answer-off _ _ (c .before .before .before .fitting .ensures) (c .before .r .given .1)))
+    (λ c. answer-on _ _ _ (c .before .before .room .ensures) (c .enum-told .given .1))
+    (λ c. answer-off _ _ _ (c .before .before .before .room .ensures) (c .before .r .given .1)))

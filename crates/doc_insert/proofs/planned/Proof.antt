@@ -1,8 +1,17 @@
--- The checks first, then the room for the copies that the row asks for.
+-- The plan on the tables where the identities are right; else the document's refusal.
 use borrow.Author.Needs.{needs}
-use Rattle.doc_insert.proofs.Promises.{small, planned-on, planned-off}
+use Rattle.check_identities.proofs.Refusing.{found-right, found-wrong}
+use Rattle.doc_insert.proofs.Promises.{planned-on, planned-off}
 use Rattle.doc_insert.proofs.planned.Statement.{statement}
 use Rattle.doc_insert.proofs.planned.Tie as tie
+
+returns : tie.Need-returns
+returns c =
+    planned-on _ _ _ (found-right _ (c .before .before .before .before .before .before .identities .ensures) (c .before .before .before .before .enum-told .given .1)) (c .before .before .planned-tables .ensures)
+
+returns-2 : tie.Need-returns-2
+returns-2 c =
+    planned-off _ _ _ (found-wrong _ (c .before .before .before .before .identities .ensures) (c .before .before .r .given .1) (c .refusal-before .ensures))
 
 pub planned-spec : {M : Type 1} → statement M
 planned-spec =
@@ -11,9 +20,8 @@ planned-spec =
     (λ c κs. search needs)
     (λ c. search needs)
     (λ c κs. search needs)
-    (λ c κs. small _ _ _ (c .before .before .before .before .before .before .asked .ensures) (c .before .before .enum-told .given .1) (c .counted .ensures))
     (λ c. search needs)
+    (λ c κs. search needs)
     (λ c. search needs)
-    (λ c. planned-on _ _ _ (c .before .before .before .before .before .before .before .asked .ensures) (c .before .before .before .enum-told .given .1) (c .before .counted .ensures) (c .answered .ensures))
-    (λ c. search needs)
-    (λ c. planned-off _ _ _ (c .before .before .before .before .before .asked .ensures) (c .before .r .given .1)))
+    returns
+    returns-2)

@@ -11,5 +11,6 @@ fitting-spec =
     (λ c κs. search needs)
     (λ c κs. search needs)
     (λ c κs. search needs)
-    (λ c. room-none _ _ _ (c .before .before .before .lesser .ensures) (c .before .before .lesser2 .ensures) (c .before .if1 .taken) (c .refused .ensures))
-    (λ c. room-enough _ _ _ (c .before .before .lesser .ensures) (c .before .lesser2 .ensures) (c .if1 .left)))
+    (λ c κs. search needs)
+    (λ c. room-none _ _ _ _ (c .before .before .before .before .lesser .ensures) (c .before .before .before .lesser2 .ensures) (c .before .before .lesser3 .ensures) (c .before .if1 .taken) (c .refused .ensures))
+    (λ c. room-enough _ _ _ _ (c .before .before .before .lesser .ensures) (c .before .before .lesser2 .ensures) (c .before .lesser3 .ensures) (c .if1 .left)))

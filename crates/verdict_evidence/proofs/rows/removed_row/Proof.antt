@@ -11,4 +11,4 @@ removed-row-spec =
     (λ c κs. search needs)
     (λ c. search needs)
     (λ c κs. search needs)
-    (λ c. row-cut _ (c .before .before .before .none .ensures) (c .before .before .before .before .before .before .pre .2) _ (c .before .before .before .before .before .before .pre .0) (c .before .before .before .before .before .before .pre .1) (c .before .delete .ensures)))
+    (λ c. row-cut _ (c .before .before .before .none .ensures) (c .before .before .before .before .before .before .pre .2) _ (c .before .before .before .before .before .before .pre .0) (c .before .before .before .before .before .before .pre .1) (c .before .deleting .ensures)))

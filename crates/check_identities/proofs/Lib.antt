@@ -1,0 +1,3 @@
+-- Laws of the code that checks identities.
+pub mod Rising
+pub mod Refusing

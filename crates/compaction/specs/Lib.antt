@@ -1,0 +1,3 @@
+-- What a reader must believe of documents whose nodes are numbered otherwise: when two of them hold the same things, and what updates follow.
+pub mod Alike
+pub mod Sequel

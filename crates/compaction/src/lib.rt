@@ -1,0 +1,1 @@
+// Compaction: definitions and laws only.

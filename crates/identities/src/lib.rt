@@ -1,0 +1,1 @@
+// Identities: definitions and laws only.
