@@ -19,7 +19,10 @@ fn times(document: &Document, asked: &Read) -> Vec<f64> {
     let [a, b, c] = &mut answers;
     assert_eq!(read(words, rows, marks, *used, a), Ok(0));
     assert_eq!(proved::read(words, rows, marks, *used, b), Ok(0));
-    assert_eq!(peer::read::read(words, rows, marks, *used, c), Ok(0));
+    assert_eq!(
+        peer::read::read(words, rows, marks, *used, &proved::IDENTITIES, c),
+        Ok(0)
+    );
     assert_eq!(a, b);
     assert_eq!(b, c);
     let mut before = || {
@@ -29,7 +32,14 @@ fn times(document: &Document, asked: &Read) -> Vec<f64> {
         let _ = black_box(proved::read(black_box(words), rows, marks, *used, b));
     };
     let mut rust = || {
-        let _ = black_box(peer::read::read(black_box(words), rows, marks, *used, c));
+        let _ = black_box(peer::read::read(
+            black_box(words),
+            rows,
+            marks,
+            *used,
+            &proved::IDENTITIES,
+            c,
+        ));
     };
     let mut times = fastest(&mut [&mut before, &mut now, &mut rust]);
     times.extend(xpath(document, asked, &answers[0]));

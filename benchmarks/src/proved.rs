@@ -122,6 +122,16 @@ extern "C" {
         plan: *mut u16,
         plan_words: usize,
     ) -> Answer;
+    fn sloefertand_compact(
+        rows: *mut u16,
+        rows_words: usize,
+        marks: *mut u8,
+        marks_bytes: usize,
+        used: usize,
+        ids: *mut u32,
+        ids_count: usize,
+        next: u32,
+    ) -> Answer;
     fn sloefertand_write_tree(tree: *const u16, tree_words: usize, text: *mut u8, text_bytes: usize) -> Answer;
     fn sloefertand_read_tree(text: *const u8, text_bytes: usize, words: *mut u16, words_words: usize) -> Answer;
 }
@@ -135,6 +145,30 @@ pub fn counted(answer: Answer) -> Counted {
         0 => Ok(answer.first),
         number => Err(number),
     }
+}
+
+/// The new used count and how many nodes were dropped.
+pub fn compact(
+    rows: &mut [u16],
+    marks: &mut [u8],
+    used: usize,
+    ids: &mut [u32],
+    next: u32,
+) -> Result<(usize, usize), usize> {
+    // As in `read`; none of the three overlaps another.
+    let answer = unsafe {
+        sloefertand_compact(
+            rows.as_mut_ptr(),
+            rows.len(),
+            marks.as_mut_ptr(),
+            marks.len(),
+            used,
+            ids.as_mut_ptr(),
+            ids.len(),
+            next,
+        )
+    };
+    counted(answer).map(|used| (used, answer.second))
 }
 
 /// The nodes of a smallest witness, 0 for no conflict.

@@ -127,19 +127,86 @@ pub fn read_document(document: &Document, read: &Read) -> Vec<f64> {
     let Document { rows, marks, used, .. } = document;
     let (mut a, mut b) = (vec![2; *used], vec![2; *used]);
     assert_eq!(proved::read(&read.words, rows, marks, *used, &mut a), Ok(0));
-    assert_eq!(peer::read::read(&read.words, rows, marks, *used, &mut b), Ok(0));
+    assert_eq!(
+        peer::read::read(&read.words, rows, marks, *used, &proved::IDENTITIES, &mut b),
+        Ok(0)
+    );
     assert_eq!(a, b);
     let mut times = {
         let mut ours = || {
             let _ = black_box(proved::read(black_box(&read.words), rows, marks, *used, &mut a));
         };
         let mut theirs = || {
-            let _ = black_box(peer::read::read(black_box(&read.words), rows, marks, *used, &mut b));
+            let _ = black_box(peer::read::read(
+                black_box(&read.words),
+                rows,
+                marks,
+                *used,
+                &proved::IDENTITIES,
+                &mut b,
+            ));
         };
         fastest(&mut [&mut ours, &mut theirs])
     };
     times.extend(xpath(document, read, &a));
     times
+}
+
+/// A document that can be compacted again and again: its rows, and the rows that a call works on.
+struct Compacted {
+    rows: Vec<u16>,
+    marks: Vec<u8>,
+    ids: Vec<u32>,
+}
+
+impl Compacted {
+    fn of(document: &Document) -> Compacted {
+        Compacted {
+            rows: document.rows.clone(),
+            marks: document.marks.clone(),
+            ids: proved::IDENTITIES[..document.used].to_vec(),
+        }
+    }
+
+    /// The document as it was.
+    fn restore(&mut self, document: &Document) {
+        self.rows.copy_from_slice(&document.rows);
+        self.marks.copy_from_slice(&document.marks);
+        self.ids.copy_from_slice(&proved::IDENTITIES[..document.used]);
+    }
+}
+
+/// A compaction of a document, which is copied anew before each.
+pub fn compact(document: &Document) -> Vec<f64> {
+    let used = document.used;
+    let (mut a, mut b) = (Compacted::of(document), Compacted::of(document));
+    let found = proved::compact(&mut a.rows, &mut a.marks, used, &mut a.ids, used as u32);
+    assert_eq!(
+        found,
+        peer::compact::compact(&mut b.rows, &mut b.marks, used, &mut b.ids, used as u32)
+    );
+    assert_eq!((&a.rows, &a.marks, &a.ids), (&b.rows, &b.marks, &b.ids));
+    let mut ours = || {
+        a.restore(document);
+        let _ = black_box(proved::compact(
+            &mut a.rows,
+            &mut a.marks,
+            used,
+            &mut a.ids,
+            used as u32,
+        ));
+    };
+    let mut theirs = || {
+        b.restore(document);
+        let _ = black_box(peer::compact::compact(
+            &mut b.rows,
+            &mut b.marks,
+            used,
+            &mut b.ids,
+            used as u32,
+        ));
+    };
+    fastest(&mut [&mut ours, &mut theirs])
 }
 
 /// libxml2's time for a read that selects these nodes, where it is built in, the document is whole and the read has
@@ -311,6 +378,12 @@ pub fn print() {
         print_row(
             &format!("{name} plan, 128 frames of 62 steps, inserts and reads, 4,096 verdicts"),
             &plan(mode, true, 128, 62),
+        );
+    }
+    for document in Document::all() {
+        print_row(
+            &format!("compaction, {}, 4,096 nodes", document.name),
+            &compact(&document),
         );
     }
     for steps in [3, 255] {

@@ -65,3 +65,14 @@ pub fn document(rows: &[u16], marks: &[u8], used: usize) -> Result<(), usize> {
     }
     Ok(())
 }
+
+/// The identities of a document: 12 for a row that is too short, out of order or not all below the next one.
+pub fn identities(ids: &[u32], used: usize, next: u32) -> Result<(), usize> {
+    if used > ids.len() || !ids[..used].windows(2).all(|pair| pair[0] < pair[1]) {
+        return Err(12);
+    }
+    match ids[..used].last() {
+        Some(&last) if last >= next => Err(12),
+        _ => Ok(()),
+    }
+}

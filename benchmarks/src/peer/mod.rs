@@ -1,6 +1,7 @@
 //! The peer: the same algorithm and the same checks, as one would write them in Rust.
 
 pub mod checks;
+pub mod compact;
 pub mod entering;
 pub mod evidence;
 pub mod meeting;

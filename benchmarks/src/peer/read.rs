@@ -86,8 +86,9 @@ pub fn select(pattern: &[u16], rows: &[u16], marks: &[u8], used: usize, row: &mu
 }
 
 /// A byte a node in use: 1 where the pattern selects it.
-pub fn read(pattern: &[u16], rows: &[u16], marks: &[u8], used: usize, row: &mut [u8]) -> Counted {
+pub fn read(pattern: &[u16], rows: &[u16], marks: &[u8], used: usize, ids: &[u32], row: &mut [u8]) -> Counted {
     checks::document(rows, marks, used)?;
+    checks::identities(ids, used, ids.len() as u32)?;
     checks::pattern(pattern)?;
     if row.len() < used {
         return Err(7);
