@@ -182,7 +182,9 @@ sloefertand_answer sloefertand_insert(const uint16_t *pattern, size_t pattern_wo
 sloefertand_answer sloefertand_compact(uint16_t *rows, size_t rows_words, uint8_t *marks, size_t marks_bytes, size_t used,
                                        uint32_t *ids, size_t ids_count, uint32_t next);
 
-/* VERDICTS: can the update change what the read selects, in any document at all? */
+/* VERDICTS: can the update change what the read selects, in any document at all?
+ * A pair that is made wider is never safer: with labels made 0, axes 1 made 2, nodes added behind the last one of the tree, any number
+ * of these, a conflict stays one, with a witness of no more nodes, and a deep yes stays yes; in a plan no slot moves towards 0. */
 
 /* A read and a delete. first: 0 where no document shows a difference, and `witness` stays; else the nodes of a smallest document
  * that shows one, written to `witness` as a tree of 2 * first words.

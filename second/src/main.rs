@@ -1,4 +1,4 @@
-//! Sloefertand's second program: twelve tables, found by trying all small trees, making all
+//! Sloefertand's second program: thirteen tables, found by trying all small trees, making all
 //! small texts, and drawing some long patterns and some large trees.
 
 mod batch;
@@ -63,6 +63,9 @@ mod tree_texts;
 mod two_damages;
 mod updates;
 mod verdict;
+mod widening;
+mod wider;
+mod wider_plans;
 mod word_damages;
 
 use numbering::Numbering;
@@ -72,7 +75,7 @@ use std::ffi::OsString;
 use std::io::{self, BufWriter, Write};
 use std::process::ExitCode;
 
-const USAGE: &str = "usage: second [test_documents | test_texts | test_small | pairs | documents | damage | plans | texts | deletes | reads | tags | lines | evidence | tags-read | identities | counts]";
+const USAGE: &str = "usage: second [test_documents | test_texts | test_small | pairs | documents | damage | plans | texts | deletes | reads | tags | lines | evidence | tags-read | identities | wider | counts]";
 
 /// What is asked for.
 #[derive(Clone, Copy, PartialEq, Eq)]
@@ -93,6 +96,7 @@ enum Wanted {
     Evidence,
     TagsRead,
     Identities,
+    Wider,
     Counts,
 }
 
@@ -116,6 +120,7 @@ fn wanted(arguments: &[OsString]) -> Option<Wanted> {
             "evidence" => Some(Wanted::Evidence),
             "tags-read" => Some(Wanted::TagsRead),
             "identities" => Some(Wanted::Identities),
+            "wider" => Some(Wanted::Wider),
             "counts" => Some(Wanted::Counts),
             _ => None,
         },
@@ -148,6 +153,7 @@ fn write_others(numbering: &Numbering, out: &mut dyn Write) -> io::Result<counts
     counts.extend(plans::write(numbering, &pairs, out)?);
     counts.extend(lines::write(out)?);
     counts.extend(proposals::write(numbering, out)?);
+    counts.extend(wider::write(numbering, &pairs, out)?);
     Ok(counts)
 }
 
@@ -210,6 +216,9 @@ fn run(wanted: Wanted, out: &mut dyn Write) -> io::Result<()> {
         }
         Wanted::Identities => {
             identities::write(out)?;
+        }
+        Wanted::Wider => {
+            wider::write(&numbering, &Pairs::tried(&numbering), out)?;
         }
         Wanted::Counts => counts::write(&write_all(&numbering, &mut io::sink())?, out)?,
     }

@@ -37,6 +37,14 @@ impl Update {
             Update::Delete { pattern } | Update::Insert { pattern, .. } => pattern,
         }
     }
+
+    /// The same update at another pattern.
+    pub fn at(self, pattern: usize) -> Update {
+        match self {
+            Update::Delete { .. } => Update::Delete { pattern },
+            Update::Insert { inserted, .. } => Update::Insert { pattern, inserted },
+        }
+    }
 }
 
 impl Numbering {
@@ -52,6 +60,16 @@ impl Numbering {
             patterns: (1..=steps).flat_map(patterns_of).collect(),
             inserted: (1..=nodes).flat_map(|n| trees_of(n, TREE_LABELS)).collect(),
         }
+    }
+
+    /// A pattern's number, if it has one.
+    pub fn pattern_number(&self, pattern: &Pattern) -> Option<usize> {
+        self.patterns.iter().position(|p| p == pattern)
+    }
+
+    /// An inserted tree's number, if it has one.
+    pub fn inserted_number(&self, table: &[Row]) -> Option<usize> {
+        self.inserted.iter().position(|x| x == table)
     }
 
     /// The number of deletes.

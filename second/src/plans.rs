@@ -20,16 +20,16 @@ pub enum Frame<R, U> {
 }
 
 /// A drawn frame: a read by its pattern's number, or a numbered update.
-type Drawn = Frame<usize, Update>;
+pub type Drawn = Frame<usize, Update>;
 
 /// The row of numbers that draws come from.
-struct Draws {
+pub struct Draws {
     state: u64,
 }
 
 impl Draws {
     /// The row from its start.
-    fn start() -> Draws {
+    pub fn start() -> Draws {
         Draws { state: 20_261_115 }
     }
 
@@ -40,7 +40,7 @@ impl Draws {
     }
 
     /// The next batch: its number of frames, then frame by frame.
-    fn batch(&mut self, numbering: &Numbering) -> Vec<Drawn> {
+    pub fn batch(&mut self, numbering: &Numbering) -> Vec<Drawn> {
         let frames = self.below(MOST_FRAMES) + 1;
         (0..frames).map(|_| self.frame(numbering)).collect()
     }
@@ -85,7 +85,7 @@ pub fn write(numbering: &Numbering, pairs: &Pairs, out: &mut dyn Write) -> io::R
 }
 
 /// The plan of a drawn batch by what table 1 has of each pair.
-fn drawn_plan(batch: &[Drawn], pairs: &Pairs, mode: Mode) -> Vec<usize> {
+pub fn drawn_plan(batch: &[Drawn], pairs: &Pairs, mode: Mode) -> Vec<usize> {
     plan(batch, |update, read| {
         mode.keeps(pairs.verdict(update, read))
     })
@@ -133,9 +133,7 @@ mod tests {
 
     /// The number of a pattern by its text.
     fn number(numbering: &Numbering, text: &str) -> usize {
-        let wanted = pattern(text);
-        let found = numbering.patterns.iter().position(|p| *p == wanted);
-        found.unwrap()
+        numbering.pattern_number(&pattern(text)).unwrap()
     }
 
     /// A read.

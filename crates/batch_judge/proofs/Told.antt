@@ -7,12 +7,11 @@ use mathlib.Core.Logic.{_↔_}
 use lib.ListN.{length, take}
 use Rattle.tables.specs.Limits.{stepLimit}
 use Rattle.tables.specs.declared.refusal.Checked.the-variants.{Fine}
-use Rattle.tables.proofs.Accepted.{then-first}
 use Rattle.conflict.specs.Conflict.{Update, Conflict, Deep, delete, insert}
-use Rattle.check_verdict.specs.Order.{roomCheck, deepDeleteCheck, deepInsertCheck, deleteVerdictCheck, insertVerdictCheck, deepCheck, verdictCheck}
+use Rattle.check_verdict.specs.Order.{deepCheck, verdictCheck}
 use Rattle.verdict.specs.Promise.{NodeVerdict}
 use Rattle.verdict_deep.specs.Promise.{DeepVerdict}
-use Rattle.check_verdict.proofs.Accepting.{delete-longest, insert-longest}
+use Rattle.check_verdict.proofs.Accepting.{delete-longest, insert-longest, verdict-deep}
 use Rattle.tables.proofs.Accepted.{never}
 use Rattle.outcomes.specs.declared.verdicts.Verdict.{Verdict}
 use Rattle.outcomes.specs.declared.verdicts.Verdict.the-variants as verdict
@@ -30,14 +29,9 @@ module _ (r : List ℕ) (out after : List ℕ) (long : length out ≡ longest) w
   room-enough (delete p) e = delete-longest r p long e
   room-enough (insert p x) e = insert-longest r p long x e
 
-  room-aside : (u : Update) → verdictCheck r u (length out) ≡ Fine → deepCheck r u ≡ Fine
-  unfolding deleteVerdictCheck insertVerdictCheck
-  room-aside (delete p) e = then-first (deepDeleteCheck r p) (roomCheck r p (length out)) e
-  room-aside (insert p x) e = then-first (deepInsertCheck r p x) (roomCheck r p (length out)) e
-
   pub told : (u : Update) (answer : Verdict) → NodeVerdict r u out after answer → (said answer ≡ true) ↔ Clash Conflict r u
   told u (verdict.Refused why) v = ((λ e. record { related = λ fine. never (v .given) (room-enough u fine) }), (λ c. refl))
-  told u verdict.Clear v = ((λ e. absurd (false≢true e)), (λ c. absurd (v .none (c .related (room-aside u (v .fine))))))
+  told u verdict.Clear v = ((λ e. absurd (false≢true e)), (λ c. absurd (v .none (c .related (verdict-deep r u (length out) (v .fine))))))
   told u (verdict.Conflict n) v = ((λ e. record { related = λ fine. record { tree = take (2 * n) after; shows = v .witness } }), (λ c. refl))
 
 -- the deep verdict has no output

@@ -5,6 +5,7 @@ use mathlib.Core.Bool.{Bool, true, false}
 use mathlib.Core.List.{List}
 use mathlib.Core.Logic.{_↔_}
 use native.Mathlib.Decide.{decLt}
+use native.Mathlib.Nat.{le-antisymm}
 use native.Mathlib.Omega.{arith}
 use lib.ListN.{length}
 use Rattle.conflict.specs.Conflict.{Update}
@@ -16,20 +17,27 @@ use Rattle.order.proofs.Slots.{found}
 use Rattle.batch_plan.specs.Batch.{EarlierRelated, SlotIs}
 use Rattle.batch_plan.proofs.Numbers.{earlier-next, number-rises}
 
-module _ {Related : List ℕ → Update → Type 0} {b : List (Frame (List ℕ) Update)} {k : ℕ} {r : List ℕ} where
-  not-less : {v w : ℕ} → SlotIs Related b k r v → SlotIs Related b k r w → v < w → ⊥
-  not-less s t h =
-      let hit = t .some (omega arith) in
-      omega (arith, s .greatest (hit .at) (hit .earlier) (hit .related), hit .numbered)
+-- where each earlier update that is related to one read stands for one, of the same number, that is related to another read, the other read's slot is no less
+pub slot-no-less : {One Other : List ℕ → Update → Type 0} {b c : List (Frame (List ℕ) Update)} {k l : ℕ} {r s : List ℕ} {v w : ℕ} → SlotIs One b k r v → SlotIs Other c l s w
+    → ((j : ℕ) (u : Update) → At b j (update u) → j < k → One r u → EarlierRelated Other c l s (number b j)) → v ≤ w
+slot-no-less {v} {w} one other stands = go (decLt 0 v)
+  where
+    go : Dec (0 < v) → v ≤ w
+    go (yes some) =
+        let found = one .some some in
+        let there = stands (found .frame) (found .what) (found .at) (found .earlier) (found .related) in
+        omega (arith, other .greatest (there .at) (there .earlier) (there .related), there .numbered, found .numbered)
+    go (no none) = omega arith
 
-  -- a read has one slot
-  pub slot-one : {v w : ℕ} → SlotIs Related b k r v → SlotIs Related b k r w → v ≡ w
-  slot-one {v} {w} s t = go (decLt v w) (decLt w v)
-    where
-      go : Dec (v < w) → Dec (w < v) → v ≡ w
-      go (yes h) d = absurd (not-less s t h)
-      go (no h) (yes l) = absurd (not-less t s l)
-      go (no h) (no l) = omega arith
+-- so where a relation holds only where another does, its slots are no greater
+pub slot-implied : {One Other : List ℕ → Update → Type 0} {b : List (Frame (List ℕ) Update)} {k : ℕ} {r : List ℕ} {v w : ℕ} → ((u : Update) → One r u → Other r u)
+    → SlotIs One b k r v → SlotIs Other b k r w → v ≤ w
+slot-implied implies one other =
+    slot-no-less one other (λ j u at before related. record { frame = j; what = u; at = at; earlier = before; related = implies u related; numbered = refl })
+
+-- a read has one slot
+pub slot-one : {Related : List ℕ → Update → Type 0} {b : List (Frame (List ℕ) Update)} {k : ℕ} {r : List ℕ} {v w : ℕ} → SlotIs Related b k r v → SlotIs Related b k r w → v ≡ w
+slot-one s t = le-antisymm (slot-implied (λ u related. related) s t) (slot-implied (λ u related. related) t s)
 
 -- an update before frame k that a test means, and its number
 record Hit (meant : Update → Bool) (b : List (Frame (List ℕ) Update)) (k w : ℕ) : Type 0 where

@@ -14,7 +14,8 @@ use Rattle.tables.specs.declared.refusal.Checked.the-variants.{Fine}
 use Rattle.tables.specs.Checks.{refuse, test, patternCheck, treeCheck}
 use Rattle.tables.proofs.Accepted.{held, then-first, then-second}
 use Rattle.tables.proofs.Soundness.{accepted-pattern, accepted-steps}
-use Rattle.check_verdict.specs.Order.{needed, roomCheck, patternsCheck, deepDeleteCheck, deepInsertCheck, deleteVerdictCheck, insertVerdictCheck}
+use Rattle.conflict.specs.Conflict.{Update, delete, insert}
+use Rattle.check_verdict.specs.Order.{needed, roomCheck, patternsCheck, deepDeleteCheck, deepInsertCheck, deleteVerdictCheck, insertVerdictCheck, deepCheck, verdictCheck}
 use Rattle.check_verdict.specs.Admitted.{Bounded}
 
 module _ {answer : Checked} (n : ℕ) where
@@ -123,3 +124,8 @@ module _ (r p : List ℕ) where
     pub insert-longest : (x : List ℕ) → deepInsertCheck r p x ≡ Fine → insertVerdictCheck r p x words ≡ Fine
     unfolding insertVerdictCheck
     insert-longest x e = rw (e, long, ← longest-room (insert-bounded x e))
+
+-- what a verdict accepts, the deep verdict accepts
+pub verdict-deep : (r : List ℕ) (u : Update) (words : ℕ) → verdictCheck r u words ≡ Fine → deepCheck r u ≡ Fine
+verdict-deep r (delete p) words e = delete-deep r p words e
+verdict-deep r (insert p x) words e = insert-deep r p words x e

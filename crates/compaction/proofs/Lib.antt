@@ -9,5 +9,5 @@ pub mod Twice
 pub mod Listing
 pub mod Updating
 pub mod Growing
-pub mod Sequel
+pub mod Fitting
 pub mod Example

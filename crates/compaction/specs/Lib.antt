@@ -1,3 +1,2 @@
--- What a reader must believe of documents whose nodes are numbered otherwise: when two of them hold the same things, and what updates follow.
+-- What a reader must believe of documents whose nodes are numbered otherwise: when two of them hold the same things.
 pub mod Alike
-pub mod Sequel

@@ -56,32 +56,38 @@ module _ (r p : List ℕ) where
   unfolding deleteWay
   deleteWay-labels = meetingOf-labels r false p true (last r) (last p)
 
+-- a node that the read selects and the delete hits
+pub record Loss (r p : List ℕ) (d : Doc) : Type 0 where
+  pub node : ℕ
+  pub chosen : selected r d node ≡ true
+  pub hit : hits p (up (d .rows) node) ≡ true
+
 module _ (r p : List ℕ) (pattern : Pattern r) (two : 1 < steps p) where
-  -- the way of a node that is lost is one that the read selects and the delete hits, and no node is gained: so where the sets differ,
-  -- deleteWay has no more labels than this way
-  pub delete-reached : (d : Doc) → Sound d → Differs r (delete p) d → Reached (length (deleteWay r p)) d
-  delete-reached d sound differs =
+  -- the sets differ exactly where there is one: it is lost, and no node is gained
+  pub loss-of : {d : Doc} → Sound d → Differs r (delete p) d → Loss r p d
+  loss-of {d} sound differs =
       by-differs pattern sound (deleted-sound p d two sound) differs
-      (λ v here gone.
-      by-selected r d v here (λ there reads.
-      let hit : hits p (up (d .rows) v) ≡ true = not-false (hits p (up (d .rows) v)) (rw (deleted-selects r p d v, here) at gone) in
-      let cut : Cut r p (up (d .rows) v) = record { reads = reads; updates = sym (hits-run p (up (d .rows) v)) ∙ hit } in
-      record { at = v; here = there; within = deleteWay-within r p (up (d .rows) v) cut }))
+      (λ v here gone. record { node = v; chosen = here; hit = not-false (hits p (up (d .rows) v)) (rw (deleted-selects r p d v, here) at gone) })
       (λ v gone here. absurd (false≢true (rw (deleted-selects r p d v, gone) at here)))
 
-  -- a tree of which the read selects a node that the delete hits is a witness: the node is lost
-  lost-hit : {t : List ℕ} → Sound (bare t) → (v : ℕ) → selected r (bare t) v ≡ true → hits p (up t v) ≡ true → Witness r (delete p) t
-  lost-hit {t} sound v here hit =
-      let gone : selected r (deleted p (bare t)) v ≡ false = rw (deleted-selects r p (bare t) v, here, hit) refl in
-      record {
-        sound = sound;
-        differs = differs-at pattern sound (deleted-sound p (bare t) two sound) v (λ e. false≢true (sym gone ∙ e ∙ here));
-      }
+  pub of-loss : {d : Doc} → Sound d → Loss r p d → Differs r (delete p) d
+  of-loss {d} sound l =
+      let gone : selected r (deleted p d) (l .node) ≡ false = rw (deleted-selects r p d (l .node), l .chosen, l .hit) refl in
+      differs-at pattern sound (deleted-sound p d two sound) (l .node) (λ e. false≢true (sym gone ∙ e ∙ l .chosen))
 
-  -- so is one of which both select a node
+  -- the way of such a node is one that the read selects and the delete hits: so where the sets differ, deleteWay has no more labels
+  pub delete-reached : (d : Doc) → Sound d → Differs r (delete p) d → Reached (length (deleteWay r p)) d
+  delete-reached d sound differs =
+      let l : Loss r p d = loss-of sound differs in
+      let w : List ℕ = up (d .rows) (l .node) in
+      by-selected r d (l .node) (l .chosen) (λ there reads.
+      record { at = l .node; here = there; within = deleteWay-within r p w (record { reads = reads; updates = sym (hits-run p w) ∙ l .hit }) })
+
+  -- a tree of which both select a node is a witness
   pub lost-selected : Pattern p → {t : List ℕ} → Sound (bare t) → (v : ℕ) → Selects r (bare t) v → Selects p (bare t) v → Witness r (delete p) t
   lost-selected other {t} sound v reads updates =
-      lost-hit sound v (selecting pattern sound v .1 reads) (hit-here p (bare t) sound v (selecting other sound v .1 updates))
+      let hit : hits p (up t v) ≡ true = hit-here p (bare t) sound v (selecting other sound v .1 updates) in
+      record { sound = sound; differs = of-loss sound (record { node = v; chosen = selecting pattern sound v .1 reads; hit = hit }) }
 
   module _ (names : (k : ℕ) → label r k < wordLimit) (others : (k : ℕ) → label p k < wordLimit) where
     -- the chain of the way loses its last node
@@ -93,7 +99,7 @@ module _ (r p : List ℕ) (pattern : Pattern r) (two : 1 < steps p) where
         let sound : Sound (bare t) = chain-sound (deleteWay r p) (deleteWay-labels r p names others) h in
         let here : selected r (bare t) v ≡ true = chain-selected-last r (deleteWay r p) h ∙ cut .reads in
         let hit : hits p (up t v) ≡ true = rw (chain-last (deleteWay r p) h, hits-run p (deleteWay r p)) (cut .updates) in
-        lost-hit sound v here hit
+        record { sound = sound; differs = of-loss sound (record { node = v; chosen = here; hit = hit }) }
 
     -- so the way decides
     pub decides-delete : Decides r (delete p) (deleteWay r p)

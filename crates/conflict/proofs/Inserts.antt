@@ -48,7 +48,45 @@ module _ (r p x : List ℕ) where
   unfolding insertWay
   insertWay-labels names others = entering-labels r p x names others (last r)
 
+-- an update point, and a node of the inserted tree that the read selects in the copy under it
+pub record Gain (r p x : List ℕ) (d : Doc) : Type 0 where
+  pub point : ℕ
+  pub node : ℕ
+  pub chosen : selected p d point ≡ true
+  pub inside : node < nodes x
+  pub reads : sel r (up x node ++ up (d .rows) point) ≡ true
+
 module _ (r p x : List ℕ) (pattern : Pattern r) (tree : Sound (bare x)) where
+  -- the sets differ exactly where there is one: the copied node is gained, and no node is lost
+  pub gain-of : {d : Doc} → Sound d → Differs r (insert p x) d → Gain r p x d
+  gain-of {d} sound differs =
+      by-differs pattern sound (inserted-sound p x d tree sound) differs
+      (λ v here gone. absurd (false≢true (sym gone ∙ kept v (selected-used r d v here) ∙ here)))
+      (λ v gone here. placed v gone here (inserted-placed p x d v (selected-used r (inserted p x d) v here)))
+    where
+      kept : (v : ℕ) → v < d .used → selected r (inserted p x d) v ≡ selected r d v
+      kept v h = kept-selected (inserted-kept p x d tree sound) r v h
+
+      placed : (v : ℕ) → selected r d v ≡ false → selected r (inserted p x d) v ≡ true → Placed x (d .used) (copies p d) v → Gain r p x d
+      placed v gone here (old h) = absurd (false≢true (sym gone ∙ sym (kept v h) ∙ here))
+      placed v gone here (copied c k h m e) = record {
+        point = getD (points p d) c 0;
+        node = k;
+        chosen = point-selected p d c h;
+        inside = m;
+        reads = sym (copy-selected (inserted-copy p x d tree sound c h) r k m) ∙ (rw e at here);
+      }
+
+  pub of-gain : {d : Doc} → Sound d → Gain r p x d → Differs r (insert p x) d
+  of-gain {d} sound g =
+      let q : ℕ = g .point in
+      let c : ℕ = count (selected p d) q in
+      let v : ℕ = d .used + c * nodes x + g .node in
+      let way : up (d .rows) (getD (points p d) c 0) ≡ up (d .rows) q = ap (up (d .rows)) (selected-point p d q (g .chosen)) in
+      let here : selected r (inserted p x d) v ≡ true =
+      copy-selected (inserted-copy p x d tree sound c (selected-number p d q (g .chosen))) r (g .node) (g .inside) ∙ rw way (g .reads) in
+      differs-at pattern sound (inserted-sound p x d tree sound) v (λ e. omega (arith, selected-used r d v (sym e ∙ here)))
+
   -- where r selects at a node k of x hung under an update point of way w, it enters there
   entry-of : (w : List ℕ) (k : ℕ) → k < nodes x → sel p w ≡ true → sel r (up x k ++ w) ≡ true → Entry r p x (last r) w
   unfolding enters
@@ -61,34 +99,13 @@ module _ (r p x : List ℕ) (pattern : Pattern r) (tree : Sound (bare x)) where
         common = record { reads = c .rest; updates = updates };
       }
 
-  -- at the end of the way of the update point above a node that is gained, the read enters, and no node is lost: so where the sets differ,
-  -- insertWay has no more labels than this way
+  -- so where the sets differ, insertWay has no more labels than the way of that update point
   pub insert-reached : (d : Doc) → Sound d → Differs r (insert p x) d → Reached (length (insertWay r p x)) d
   insert-reached d sound differs =
-      by-differs pattern sound (inserted-sound p x d tree sound) differs
-      (λ v here gone. absurd (false≢true (sym gone ∙ kept v (selected-used r d v here) ∙ here)))
-      (λ v gone here. placed v gone here (inserted-placed p x d v (selected-used r (inserted p x d) v here)))
-    where
-      kept : (v : ℕ) → v < d .used → selected r (inserted p x d) v ≡ selected r d v
-      kept v h = kept-selected (inserted-kept p x d tree sound) r v h
-
-      placed : (v : ℕ) → selected r d v ≡ false → selected r (inserted p x d) v ≡ true → Placed x (d .used) (copies p d) v
-          → Reached (length (insertWay r p x)) d
-      placed v gone here (old h) = absurd (false≢true (sym gone ∙ sym (kept v h) ∙ here))
-      placed v gone here (copied c k h m e) =
-          let q : ℕ = getD (points p d) c 0 in
-          let reads : sel r (up x k ++ up (d .rows) q) ≡ true = sym (copy-selected (inserted-copy p x d tree sound c h) r k m) ∙ (rw e at here) in
-          by-selected p d q (point-selected p d c h) (λ there updates.
-          record { at = q; here = there; within = insertWay-within r p x (up (d .rows) q) (entry-of (up (d .rows) q) k m updates reads) })
-
-  -- a copy under an update point gains the nodes that r selects in it
-  gains : {d : Doc} → Sound d → (q k : ℕ) → selected p d q ≡ true → k < nodes x → sel r (up x k ++ up (d .rows) q) ≡ true → Differs r (insert p x) d
-  gains {d} sound q k point h reads =
-      let c : ℕ = count (selected p d) q in
-      let v : ℕ = d .used + c * nodes x + k in
-      let way : up (d .rows) (getD (points p d) c 0) ≡ up (d .rows) q = ap (up (d .rows)) (selected-point p d q point) in
-      let here : selected r (inserted p x d) v ≡ true = copy-selected (inserted-copy p x d tree sound c (selected-number p d q point)) r k h ∙ rw way reads in
-      differs-at pattern sound (inserted-sound p x d tree sound) v (λ e. omega (arith, selected-used r d v (sym e ∙ here)))
+      let g : Gain r p x d = gain-of sound differs in
+      let w : List ℕ = up (d .rows) (g .point) in
+      by-selected p d (g .point) (g .chosen) (λ there updates.
+      record { at = g .point; here = there; within = insertWay-within r p x w (entry-of w (g .node) (g .inside) updates (g .reads)) })
 
   module _ (names : (k : ℕ) → label r k < wordLimit) (others : (k : ℕ) → label p k < wordLimit) where
     -- the chain of the way gains a node under its last
@@ -99,11 +116,18 @@ module _ (r p x : List ℕ) (pattern : Pattern r) (tree : Sound (bare x)) where
         let entry : Entry r p x (last r) w = insertWay-entry r p x h in
         let s : Somewhere (λ k. goesOn r (up x k) (entry .state)) (nodes x) = of-somewhere (λ k. goesOn r (up x k) (entry .state)) (nodes x) (entry .goes-on) in
         let sound : Sound (bare (chain w)) = chain-sound w (insertWay-labels r p x names others) h in
+        let reads : sel r (up x (s .at) ++ w) ≡ true = goes-on-join r (up x (s .at)) w (record { state = entry .state; left = s .holds; rest = entry .common .reads }) in
         record {
           sound = sound;
           differs =
-              gains sound (pred (length w)) (s .at) (chain-selected-last p w h ∙ entry .common .updates) (s .below)
-              (rw (chain-last w h) (goes-on-join r (up x (s .at)) w (record { state = entry .state; left = s .holds; rest = entry .common .reads })));
+              of-gain sound
+              (record {
+                point = pred (length w);
+                node = s .at;
+                chosen = chain-selected-last p w h ∙ entry .common .updates;
+                inside = s .below;
+                reads = rw (chain-last w h) reads;
+              });
         }
 
     -- so the way decides

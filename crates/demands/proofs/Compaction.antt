@@ -25,7 +25,7 @@ use Rattle.compaction.proofs.Keeping.{compacted-sound}
 use Rattle.compaction.proofs.Checking.{accepted-room, compacted-accepted}
 use Rattle.compaction.proofs.Compacting.{compacted-same-below}
 use Rattle.compaction.proofs.Twice.{compacted-twice}
-use Rattle.compaction.proofs.Sequel.{compacted-fits}
+use Rattle.compaction.proofs.Fitting.{compacted-fits}
 use Rattle.compaction.proofs.Example.{five-compacted, five-dropped}
 use Rattle.doc_compact.specs.Compacting.{Compact}
 use Rattle.doc_compact.proofs.Laws.{compact-fine, compact-numbers, compact-document}
@@ -40,7 +40,8 @@ use Rattle.order_calls.proofs.Callable.{accepted-callable}
 use Rattle.order_compaction.specs.Numbers.{Gap, SameBatch, Roomy, Refuses}
 use Rattle.order_compaction.proofs.Between.{runs-same, runs-room, compacted-gap, compacted-document}
 use Rattle.demands.specs.Updates.{Compacts, ClosedBy}
-use Rattle.demands.specs.Demands.{Start, RoomBack}
+use Rattle.demands.specs.Demands.{Start}
+use Rattle.demands.specs.Requests.{RoomBack}
 
 -- of a document that meets no refusal
 module _ (d : Document) (fine : wholeCheck d ≡ Fine) where

@@ -21,7 +21,6 @@ use Rattle.identities.proofs.Showing.{identity-one, below-identities}
 use Rattle.identities.proofs.Conflict.{after-tables}
 use Rattle.selection.specs.Operations.{copies}
 use Rattle.selection.proofs.Selecting.{selecting}
-use Rattle.doc_updates.specs.Updating.{deleteCheck}
 use Rattle.doc_updates.proofs.Accepted.{delete-document, delete-pattern, insert-document, insert-pattern, insert-tree}
 use Rattle.doc_updates.proofs.Deletes.{removed-tables, delete-doc, delete-count, delete-behind, delete-length}
 use Rattle.doc_updates.proofs.Inserts.{insert-fine, insert-number, insert-tables, insert-doc, insert-words-behind, insert-marks-behind, insert-rows-length, insert-marks-length}
@@ -38,7 +37,7 @@ use Rattle.outcomes.specs.declared.verdicts.Verdict.the-variants as verdict
 use Rattle.outcomes.specs.declared.verdicts.Deeply.{Deeply}
 use Rattle.outcomes.specs.declared.verdicts.Deeply.the-variants as deep
 use Rattle.verdict_evidence.proofs.Promise.{delete-none-gained, insert-none-lost, gained-new}
-use Rattle.marked.proofs.Marked.{small, words-of, marked}
+use Rattle.marked.proofs.Marked.{marked}
 use Rattle.order.proofs.Own.{own-order}
 use Rattle.order.specs.Fitting.{DecidedBy}
 use Rattle.order.proofs.Deciding.{conflicting-decides, deeply-decides}
@@ -51,10 +50,7 @@ use Rattle.order_calls.proofs.Running.{run-has, run-works, run-identities, run-
 use Rattle.order_calls.proofs.Accepting.{AcceptedDocument, whole-accepted}
 use Rattle.order_calls.proofs.Demand.{Shown, nodes-shown, below-shown}
 use Rattle.order_calls.proofs.Same.{shown-runs}
-use Rattle.order_deletes.specs.Deletes.{abc}
-use Rattle.order_deletes.proofs.Calls.{call-fine, calls-marks, calls-count, calls-refusals, calls-some}
-use Rattle.order_deletes.proofs.Orders.{orders-marks, orders-total, either-marks, either-total, second-works, first-fine, made-before, again}
-use Rattle.order_deletes.proofs.Example.{above-first, below-first, not-each}
+use Rattle.order_deletes.proofs.Calls.{call-fine}
 use Rattle.batch_walk.proofs.Laws.{refused-stays, over-stays}
 use Rattle.batch_walk.proofs.Walk.{parts-join, walk-frames, walk-over, walk-whole, walk-stops, walk-long}
 use Rattle.text_digits.specs.Digits.{wordsOf, lineOf}
@@ -73,13 +69,7 @@ use Rattle.text_printer.proofs.Settled.{printed-one}
 use Rattle.text_printer.proofs.Enough.{room-enough}
 use Rattle.text_printer.proofs.Behind.{prints-first}
 use Rattle.text_printer.proofs.Offsets.{offset-none, line-fault, stop-offset}
-use Rattle.batch_mode.specs.Modes.{relationOf}
-use Rattle.older.proofs.Frames.{frame-other}
-use Rattle.older.proofs.Lines.{take-other, take-kept, line-most}
-use Rattle.older.proofs.Kept.{batch-kept, plan-kept, pair-kept, verdict-kept}
-use Rattle.older.proofs.Numbers.{frame-number, line-number, found-kept}
-use Rattle.older.proofs.Ours.{within-ours, longest-line, frame-ours, take-ours, batch-ours, plan-ours, pair-ours, verdict-ours, long-read}
-use Rattle.demands.specs.Demands.{DemandOne, DemandTwo, Start, DemandThree, InBothModes, EitherOrder, OtherLimits, Besides}
+use Rattle.demands.specs.Demands.{DemandOne, DemandTwo, Start, DemandThree, InBothModes, Besides}
 use Rattle.text_printer.specs.Printer.{refusal, named, misnamed}
 use Rattle.text_printer.proofs.Moded.{moded-plan}
 use Rattle.text_first_line.specs.FirstLine.{firstWords}
@@ -91,7 +81,7 @@ use Rattle.demands.proofs.Texts.{lists-place, list-lines, texts, texts-
 use Rattle.demands.proofs.Tags.{tags-enough, tags-reached, witness-text}
 use Rattle.demands.proofs.TagsIn.{tags, tags-place, read-means, read-in-order, read-sound, read-again, written-back, written-same}
 use Rattle.demands.proofs.Evidence.{evidence-exactly, first-changed, own-accepted, accepted-conflict}
-use Rattle.demands.proofs.Updates.{deleted-by, all-deleted-by, inserted-by, named-by}
+use Rattle.demands.proofs.Updates.{deleted-by, inserted-by, named-by}
 use Rattle.demands.proofs.Identities.{differences, by-identities, same-delete, ids-behind}
 use Rattle.demands.proofs.Agreeing.{read-rows, readings-agree}
 use Rattle.demands.proofs.Keeping.{keeps-order, order-keeps}
@@ -236,55 +226,6 @@ in-both-modes =
       also-nodes = λ r d e same. below-identities same;
       not-nodes = not-nodes;
       slots-differ = slots-differ;
-    }
-
-accepted-first : (p : List ℕ) (d : Document) → Bits16 (d .tables .rows) → deleteCheck p d ≡ Fine → AcceptedDocument d
-accepted-first p d words fine = whole-accepted words (delete-document p d fine)
-
-pub either-order : EitherOrder
-unfolding small
-either-order =
-    record {
-      second = λ p q d words first other x y last. second-works (accepted-first p d words first) other;
-      marks = λ p q d words first other x y last end. either-marks (accepted-first p d words first);
-      counts = λ p q d words i j k l last end calls. either-total (accepted-first p d words (first-fine calls)) calls;
-      twice = λ p d words n answers once last calls. again (accepted-first p d words (first-fine calls)) calls;
-      made-before = λ ps d words answers last calls k p at fine after answer. made-before (accepted-first p d words fine) calls at fine;
-      above-first = above-first;
-      below-first = below-first;
-      not-each = not-each {Kind = λ d. Bits16 (d .tables .rows)} (words-of (abc .tables .rows) refl);
-      refusals = λ ps d words fine answers last. calls-refusals (whole-accepted words fine);
-      removed = λ ps d words fine answers last calls.
-          let accepted = whole-accepted words fine in
-          rw (calls-marks accepted calls) (all-deleted-by ps d accepted);
-      removals = λ ps d answers last. calls-count;
-      orders = λ ps qs same d words fine one other last end calls others.
-          let accepted = whole-accepted words fine in
-          (orders-marks same accepted calls others, orders-total same accepted calls others);
-      calls = calls-some;
-    }
-
-pub other-limits : OtherLimits
-other-limits =
-    record {
-      our-frame = frame-ours;
-      our-line = take-ours;
-      our-batch = batch-ours;
-      our-plan = plan-ours;
-      our-verdict = λ r u words. (pair-ours r u, verdict-ours r u words);
-      older = within-ours;
-      line-most = line-most;
-      longest-line = longest-line;
-      frames-kept = λ o i w b n at f e. found-kept o i w b n at e;
-      lines-kept = take-kept;
-      batches-kept = batch-kept;
-      plans-kept = λ o i w m b before after answer e p. plan-kept o i w b (relationOf m) before after answer e p;
-      verdicts-kept = λ o i w r u words e. (pair-kept o i w r u e, verdict-kept o i w r u words e);
-      frame-answer = λ i j b n at e. frame-other i j b n at e;
-      line-answer = take-other;
-      frame-number = λ i j b n at why e q. frame-number j b at (sym (frame-other i j b n at e) ∙ q);
-      line-number = λ i j l n b why e q. line-number j l n b (sym (take-other i j l n b e) ∙ q);
-      long-read = (sym (frame-ours _ 0 0) ∙ long-read .0, long-read .1);
     }
 
 -- behind a text at the front of a buffer all stays

@@ -14,8 +14,8 @@ use Rattle.tables.specs.declared.refusal.Checked.the-variants.{Fine}
 use Rattle.tables.proofs.Accepted.{never}
 use Rattle.tables.proofs.Soundness.{accepted-some}
 use Rattle.conflict.specs.Conflict.{Update, delete, insert, Differs}
-use Rattle.check_verdict.specs.Order.{verdictCheck}
-use Rattle.check_verdict.proofs.Accepting.{delete-patterns, delete-two, delete-deep, insert-patterns, insert-tree, insert-deep}
+use Rattle.check_verdict.specs.Order.{verdictCheck, deepCheck}
+use Rattle.check_verdict.proofs.Accepting.{delete-patterns, delete-two, insert-patterns, insert-tree, verdict-deep}
 use Rattle.verdict.specs.Promise.{NodeVerdict}
 use Rattle.check_evidence.specs.Order.{evidenceCheck, deleteEvidenceCheck, insertEvidenceCheck}
 use Rattle.check_evidence.proofs.Accepting.{insert-tree as proposed-tree}
@@ -43,15 +43,11 @@ evidence-exactly r u t (evidence.Shown v) words h fine = ((λ l. h .witness .dif
 pub first-changed : {r : List ℕ} {u : Update} {t : List ℕ} {v : ℕ} → Checks r u t (evidence.Shown v) → (w : ℕ) → w < v → (Lost r u (bare t) w → ⊥) × (Gained r u (bare t) w → ⊥)
 first-changed s w h = ((λ l. l .gone (s .first w h .0 (l .before))), (λ g. g .absent (s .first w h .1 (g .behind))))
 
--- what the verdict accepts is accepted with every accepted tree
-pub evidence-fine : (r : List ℕ) (u : Update) (words : ℕ) (t : List ℕ) → verdictCheck r u words ≡ Fine → treeCheck t treeLimit 5 ≡ Fine → evidenceCheck r u t ≡ Fine
+-- a pair that is accepted is accepted with every accepted tree
+pub evidence-fine : (r : List ℕ) (u : Update) (t : List ℕ) → deepCheck r u ≡ Fine → treeCheck t treeLimit 5 ≡ Fine → evidenceCheck r u t ≡ Fine
 unfolding deleteEvidenceCheck insertEvidenceCheck
-evidence-fine r (delete p) words t e tree =
-    let deep = delete-deep r p words e in
-    rw (delete-patterns r p deep, tree, lt-ltb 1 (steps p) (delete-two r p deep))
-evidence-fine r (insert p x) words t e tree =
-    let deep = insert-deep r p words x e in
-    rw (insert-patterns r p x deep, insert-tree r p x deep, tree)
+evidence-fine r (delete p) t deep tree = rw (delete-patterns r p deep, tree, lt-ltb 1 (steps p) (delete-two r p deep))
+evidence-fine r (insert p x) t deep tree = rw (insert-patterns r p x deep, insert-tree r p x deep, tree)
 
 -- every witness that the verdict writes is accepted
 pub own-accepted : (r : List ℕ) (u : Update) (before after : List ℕ) (n : ℕ) (answer : Evidence) → NodeVerdict r u before after (verdict.Conflict n) →
@@ -62,7 +58,7 @@ own-accepted r u before after n answer h promised = go answer promised
     tree = take (2 * n) after
 
     go : (x : Evidence) → Checks r u tree x → (v : ℕ) × (x ≡ evidence.Shown v)
-    go (evidence.Refused why) e = never e (evidence-fine r u (length before) tree (h .fine) (witness-fine r u before after n h))
+    go (evidence.Refused why) e = never e (evidence-fine r u tree (verdict-deep r u (length before) (h .fine)) (witness-fine r u before after n h))
     go evidence.Same e = absurd (e .none (h .witness .differs))
     go (evidence.Shown v) e = (v, refl)
 

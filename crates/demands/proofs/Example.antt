@@ -35,10 +35,34 @@ deletes = 0 ∷ 1 ∷ 1 ∷ 2 ∷ []
 abbrev pub reads : List ℕ
 reads = 0 ∷ 1 ∷ 1 ∷ 3 ∷ []
 
-abbrev frames : List (Frame (List ℕ) Update)
-frames = update (delete deletes) ∷ read reads ∷ []
+-- the delete, and then a read
+abbrev pub frames : List ℕ → List (Frame (List ℕ) Update)
+frames q = update (delete deletes) ∷ read q ∷ []
 
-frames-are : batchOf example ≡ frames
+-- a batch of these two: its plan, by a relation that is decided
+module _ (b q : List ℕ) (are : batchOf b ≡ frames q) (accepted : planCheck b 2 ≡ Fine) (words : Bits16 b)
+    {Related : List ℕ → Update → Type 0} {test : List ℕ → Update → Bool} (decides : DecidedBy Related test) (w : ℕ) (is : w ≡ slot test (frames q) 1 q) where
+  its-slot : SlotIs Related (frames q) 1 q w
+  unfolding planCheck
+  its-slot =
+      let at : At (batchOf b) 1 (read q) = rw are (there here) in
+      rw (← are) (accepted-slot decides b words (then-first (batchCheck b) _ accepted) at w .1 (rw are is))
+
+  word : {k : ℕ} {f : Frame (List ℕ) Update} → At (frames q) k f → WordIs Related (frames q) k f (getD (1 ∷ w ∷ []) k 0)
+  unfolding number earlier
+  word here = refl
+  word (there here) = its-slot
+  word (there (there p)) = absurd (omega (arith, at-below p))
+
+  pub two-plan : PlanOf Related b (0 ∷ 0 ∷ []) (1 ∷ w ∷ []) (planned.Frames 2)
+  two-plan = (accepted, rw are, rw are (record { words = word; behind = behind; kept = refl }))
+    where
+      behind : (i : ℕ) → 2 ≤ i → _≡_ {A = ℕ} (getD (1 ∷ w ∷ []) i 0) (getD (0 ∷ 0 ∷ []) i 0)
+      behind zero h = absurd (omega arith)
+      behind (suc zero) h = absurd (omega arith)
+      behind (suc (suc i)) h = refl
+
+pub frames-are : batchOf example ≡ frames reads
 unfolding batchOf framesFrom meaning updateOf endOf
 frames-are = refl
 
@@ -60,27 +84,9 @@ words = words-of example refl
 
 -- by a relation that is decided, and does not hold of them
 module _ {Related : List ℕ → Update → Type 0} {test : List ℕ → Update → Bool} (decides : DecidedBy Related test) (none : test reads (delete deletes) ≡ false) where
-  -- the read has no slot
-  no-slot : SlotIs Related frames 1 reads 0
-  unfolding slot nearest earlier updatesAt planCheck
-  no-slot =
-      let at : At (batchOf example) 1 (read reads) = rw frames-are (there here) in
-      let is : 0 ≡ slot test (batchOf example) 1 reads = rw (frames-are, none) in
-      rw (← frames-are) (accepted-slot decides example words (then-first (batchCheck example) _ accepted) at 0 .1 is)
-
-  word : {k : ℕ} {f : Frame (List ℕ) Update} → At frames k f → WordIs Related frames k f (getD (1 ∷ 0 ∷ []) k 0)
-  unfolding number earlier
-  word here = refl
-  word (there here) = no-slot
-  word (there (there p)) = absurd (omega (arith, at-below p))
-
   pub moved-plan : PlanOf Related example (0 ∷ 0 ∷ []) (1 ∷ 0 ∷ []) (planned.Frames 2)
-  moved-plan = (accepted, rw frames-are, rw frames-are (record { words = word; behind = behind; kept = refl }))
-    where
-      behind : (i : ℕ) → 2 ≤ i → _≡_ {A = ℕ} (getD (1 ∷ 0 ∷ []) i 0) (getD (0 ∷ 0 ∷ []) i 0)
-      behind zero h = absurd (omega arith)
-      behind (suc zero) h = absurd (omega arith)
-      behind (suc (suc i)) h = refl
+  unfolding slot nearest earlier updatesAt
+  moved-plan = two-plan example reads frames-are accepted words decides 0 (rw none)
 
   pub moved-keeps : Keeps (1 ∷ 0 ∷ []) (batchOf example) (1 ∷ 0 ∷ [])
   moved-keeps = order-keeps decides example (0 ∷ 0 ∷ []) (1 ∷ 0 ∷ []) 2 words moved-plan (rw frames-are (read-first test (delete deletes) reads none))

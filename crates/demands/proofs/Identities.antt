@@ -14,12 +14,12 @@ use Rattle.conflict.specs.Conflict.{Update, delete, insert, UpdateBits, Differs
 use Rattle.identities.specs.Documents.{Document, identity, SoundDocument}
 use Rattle.identities.specs.Updates.{deletedIn, written}
 use Rattle.identities.specs.Conflict.{DiffersIn, ConflictIn}
-use Rattle.identities.proofs.Updates.{Keeping, identity-behind, inserted-ids-length}
+use Rattle.identities.proofs.Updates.{Keeping, identity-behind, inserted-ids-length, fits-ids}
 use Rattle.identities.proofs.Conflict.{differs-sound, conflict-exactly}
 use Rattle.check_verdict.specs.Order.{deepCheck}
 use Rattle.check_verdict.proofs.Accepting.{patterns-read, delete-patterns, delete-two, insert-patterns, insert-tree}
 use Rattle.doc_updates.specs.Updating.{Delete, Insert}
-use Rattle.doc_updates.proofs.Accepted.{insert-fits, fits-ids}
+use Rattle.doc_updates.proofs.Accepted.{insert-fits}
 use Rattle.doc_updates.proofs.Deletes.{removed-tables, delete-doc}
 use Rattle.doc_updates.proofs.Inserts.{insert-fine, insert-number, insert-used, insert-doc}
 use Rattle.order_deletes.specs.Deletes.{withMarks}

@@ -14,3 +14,5 @@ pub mod Keeping
 pub mod Example
 pub mod Modes
 pub mod Demands
+pub mod Requests
+pub mod Wider

@@ -1,9 +1,7 @@
 -- Demand 3 over what a read is shown, by a relation that is decided; and how the two modes stand to each other.
-use Prim.Native.Nat.{ℕ, _<_, _≤_}
+use Prim.Native.Nat.{ℕ, _≤_}
 use mathlib.Core.List.{List}
 use mathlib.Core.Logic.{_↔_, inl}
-use native.Mathlib.Decide.{decLt}
-use native.Mathlib.Omega.{arith}
 use Rattle.identities.specs.Documents.{Document, SoundDocument}
 use Rattle.identities.specs.Showing.{SameIdentities, SameIdentitiesBelow}
 use Rattle.identities.proofs.Numbered.{identities-not-below}
@@ -12,6 +10,7 @@ use Rattle.order.specs.Frames.{Frame}
 use Rattle.batch_mode.specs.Modes.{modeCheck, modeOf}
 use Rattle.outcomes.specs.declared.plans.Planned.{Planned}
 use Rattle.batch_plan.specs.Batch.{PlanIn, PlanOf, Plan, SlotIs}
+use Rattle.batch_plan.proofs.Slots.{slot-implied}
 
 -- a mode by its number
 pub named-node : (b before after : List ℕ) (answer : Planned) → PlanIn 1 b before after answer ↔ PlanOf Conflict b before after answer
@@ -24,13 +23,7 @@ named-deep b before after answer = ((λ h. h), (λ h. h))
 
 -- a conflict is a deep one, so the nearest deep one is no farther
 pub deeper : (b : List (Frame (List ℕ) Update)) (k : ℕ) (r : List ℕ) (v w : ℕ) → SlotIs Conflict b k r v → SlotIs Deep b k r w → v ≤ w
-deeper b k r v w s t = go (decLt 0 v)
-  where
-    go : Dec (0 < v) → v ≤ w
-    go (yes some) =
-        let found = s .some some in
-        omega (arith, t .greatest (found .at) (found .earlier) (inl (found .related)), found .numbered)
-    go (no none) = omega arith
+deeper b k r v w = slot-implied (λ u c. inl c)
 
 pub not-nodes : ((r : List ℕ) (d e : Document) → SoundDocument d → SoundDocument e → SameIdentities r d e → SameIdentitiesBelow r d e) → ⊥
 not-nodes all =

@@ -1,5 +1,5 @@
 -- Patterns as text: lists and texts are refused as the definitions say; what is written reads back, and what was read is written back.
-use Prim.Native.Nat.{ℕ, _-_, _*_, _≤_, _<_}
+use Prim.Native.Nat.{ℕ, _*_, _≤_, _<_}
 use mathlib.Core.Path.{_≡_, refl, sym, _∙_, ap}
 use mathlib.Core.Bool.{Bool, true, false}
 use mathlib.Core.List.{List}
@@ -13,11 +13,11 @@ use borrow.Author.Tests.{leb-true, le-leb}
 use Rattle.tables.specs.Limits.{stepLimit}
 use Rattle.tables.specs.Words.{steps, label}
 use Rattle.tables.specs.Patterns.{Pattern}
-use Rattle.tables.specs.Checks.{_then_, test, refuse, each, sizeCheck, patternCheck, outputCheck}
+use Rattle.tables.specs.Checks.{_then_, test, refuse, each, patternCheck, outputCheck}
 use Rattle.tables.specs.declared.refusal.Checked.{Checked}
 use Rattle.tables.specs.declared.refusal.Checked.the-variants.{Fine, Refused}
 use Rattle.tables.proofs.Accepted.{never, held, then-first, then-second, each-all}
-use Rattle.tables.proofs.Soundness.{size-even, accepted-pattern, accepted-steps, pattern-fine}
+use Rattle.tables.proofs.Soundness.{accepted-pattern, accepted-steps, accepted-pairs, pattern-fine}
 use Rattle.text_names.specs.Names.{Names, NameList, BreaksAt, lines, same, listCheck}
 use Rattle.text_names.proofs.Written.{lines-written}
 use Rattle.text_names.proofs.Lists.{list-names, list-breaks, breaks-list}
@@ -102,8 +102,7 @@ module _ (l p : List ℕ) (room : ℕ) (e : writeTextCheck l p room ≡ Fine) wh
       numbered (lines l) p (then-first (each (numberCheck (lines l) p) 0 (steps p)) _ (then-second (patternCheck p stepLimit 1) _ write-rest)) .all
 
   write-whole : 2 * steps p ≡ length p
-  unfolding patternCheck
-  write-whole = omega (arith, size-even (length p) stepLimit 1 (then-first (sizeCheck (length p) stepLimit 1) _ write-pattern))
+  write-whole = accepted-pairs p stepLimit 1 write-pattern
 
   names : Names (lines l)
   names = list-names l write-list

@@ -25,7 +25,8 @@ use Rattle.outcomes.specs.declared.updates.Inserted.the-variants.{Copied, Refus
 use Rattle.doc_updates.specs.Updating.{insertCheck, insertAnswer, Insert}
 use Rattle.doc_updates.specs.Asking.{chosen, tablesCheck, Asked}
 use Rattle.doc_updates.proofs.Asking.{then-assoc, row-copies, row-points}
-use Rattle.doc_updates.proofs.Accepted.{insert-whole, insert-tree, insert-named, insert-fits, fits-tables, fits-ids, named-most, copied-fine, refused-told}
+use Rattle.identities.proofs.Updates.{fits-tables, fits-ids, named-most}
+use Rattle.doc_updates.proofs.Accepted.{insert-whole, insert-tree, insert-named, insert-fits, copied-fine, refused-told}
 use Rattle.doc_graft.specs.Grafting.{copiedAll}
 use Rattle.doc_graft.proofs.Trees.{chosen-grafts}
 use Rattle.doc_insert.specs.Planning.{Small, leftCheck, Planned, Nameable}

@@ -1,27 +1,24 @@
 -- What the checks of an update say where they are fine.
-use Prim.Native.Nat.{ℕ, _+_, _*_, _<_, _≤_}
-use mathlib.Core.Path.{_≡_, refl, sym, _∙_}
+use Prim.Native.Nat.{ℕ, _<_}
+use mathlib.Core.Path.{_≡_, refl}
 use mathlib.Core.Bool.{true}
 use mathlib.Core.List.{List}
 use native.Mathlib.Omega.{arith}
 use lib.Dec.{ltb}
-use lib.ListN.{length}
-use borrow.Author.Tests.{ltb-true, leb-true, le-leb}
-use Rattle.tables.specs.Limits.{stepLimit, treeLimit, identityLimit}
-use Rattle.tables.specs.Words.{steps, nodes}
+use borrow.Author.Tests.{ltb-true}
+use Rattle.tables.specs.Limits.{stepLimit, treeLimit}
+use Rattle.tables.specs.Words.{steps}
 use Rattle.tables.specs.Patterns.{Pattern}
-use Rattle.tables.specs.Documents.{Doc, capacity}
+use Rattle.tables.specs.Documents.{Doc}
 use Rattle.tables.specs.Checks.{_then_, test, refuse, documentCheck, patternCheck, treeCheck}
 use Rattle.tables.specs.declared.refusal.Refusal.{Refusal}
 use Rattle.tables.specs.declared.refusal.Checked.{Checked}
 use Rattle.tables.specs.declared.refusal.Checked.the-variants.{Fine, Refused}
 use Rattle.tables.proofs.Accepted.{held, then-first, then-second}
 use Rattle.tables.proofs.Soundness.{accepted-pattern}
-use Rattle.selection.specs.Operations.{copies, fits}
-use Rattle.selection.proofs.Inserting.{Room, fits-room}
 use Rattle.identities.specs.Documents.{Document}
 use Rattle.identities.specs.Checks.{wholeCheck}
-use Rattle.identities.specs.Updates.{written, nameable, roomOf, fitsIn}
+use Rattle.identities.specs.Updates.{nameable, fitsIn}
 use Rattle.outcomes.specs.declared.updates.Deleted.{Deleted}
 use Rattle.outcomes.specs.declared.updates.Deleted.the-variants.{Removed, Refused as NotDeleted}
 use Rattle.outcomes.specs.declared.updates.Inserted.the-variants.{Copied, Refused as NotInserted}
@@ -103,26 +100,6 @@ module _ (p x : List ℕ) (d : Document) where
     insert-fits =
         held (fitsIn p x d) _
         (then-second (test (nameable p x d) (refuse 16 5 0)) (test (fitsIn p x d) (refuse 11 4 0)) (then-second (treeCheck x treeLimit 3) roomCheck behind-pattern))
-
--- what room there is: for the nodes in the tables, and for their identities in the row
-module _ (p x : List ℕ) (d : Document) (e : fitsIn p x d ≡ true) where
-  most : d .tables .used + written p x (d .tables) ≤ roomOf d
-  unfolding fitsIn
-  most = leb-true (d .tables .used + written p x (d .tables)) (roomOf d) e
-
-  pub fits-tables : Room p x (d .tables)
-  unfolding written fits
-  fits-tables =
-      fits-room p x (d .tables)
-      (le-leb (d .tables .used + copies p (d .tables) * nodes x) (capacity (length (d .tables .rows)) (length (d .tables .marks))) (omega (arith, most)))
-
-  pub fits-ids : d .tables .used + written p x (d .tables) ≤ length (d .ids)
-  fits-ids = omega (arith, most)
-
--- and what identities there are
-pub named-most : (p x : List ℕ) (d : Document) → nameable p x d ≡ true → d .next + written p x (d .tables) ≤ identityLimit
-unfolding nameable
-named-most p x d e = leb-true (d .next + written p x (d .tables)) identityLimit e
 
 -- an insert that answers copies met no refusal
 pub copied-fine : (c : Checked) (a b m : ℕ) {n used next : ℕ} → insertAnswer c a b m ≡ Copied n used next → c ≡ Fine

@@ -19,7 +19,8 @@ use Rattle.identities.specs.Updates.{written, insertedIn}
 use Rattle.identities.proofs.Checks.{whole-tables}
 use Rattle.outcomes.specs.declared.updates.Inserted.the-variants.{Copied, Refused as NotInserted}
 use Rattle.doc_updates.specs.Updating.{insertCheck, Insert}
-use Rattle.doc_updates.proofs.Accepted.{insert-document, insert-tree, insert-fits, fits-tables, copied-fine, refused-told}
+use Rattle.identities.proofs.Updates.{fits-tables}
+use Rattle.doc_updates.proofs.Accepted.{insert-document, insert-tree, insert-fits, copied-fine, refused-told}
 
 -- a refused insert changes no row
 pub insert-same : {p x : List ℕ} {d : Document} {rows₀ marks₀ ids₀ rows₁ marks₁ ids₁ : List ℕ} {r : Refusal} →

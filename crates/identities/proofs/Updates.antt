@@ -144,13 +144,27 @@ pub record RoomIn (p x : List ℕ) (d : Document) : Type 0 where
   pub tables : Room p x (d .tables)
   pub ids : d .tables .used + copies p (d .tables) * nodes x ≤ length (d .ids)
 
--- which is what the tests say
+-- which is what the tests say: of the nodes in the tables and of their identities in the row
+module _ (p x : List ℕ) (d : Document) (e : fitsIn p x d ≡ true) where
+  most : d .tables .used + written p x (d .tables) ≤ roomOf d
+  unfolding fitsIn
+  most = leb-true (d .tables .used + written p x (d .tables)) (roomOf d) e
+
+  pub fits-tables : Room p x (d .tables)
+  unfolding written
+  fits-tables = record { limit = omega (arith, most); rows = omega (arith, most); marks = omega (arith, most) }
+
+  pub fits-ids : d .tables .used + written p x (d .tables) ≤ length (d .ids)
+  fits-ids = omega (arith, most)
+
+-- and of the identities that there are
+pub named-most : (p x : List ℕ) (d : Document) → nameable p x d ≡ true → d .next + written p x (d .tables) ≤ identityLimit
+unfolding nameable
+named-most p x d e = leb-true (d .next + written p x (d .tables)) identityLimit e
+
 pub fits-room-in : (p x : List ℕ) (d : Document) → nameable p x d ≡ true → fitsIn p x d ≡ true → RoomIn p x d
-unfolding nameable fitsIn written
-fits-room-in p x d e q =
-    let names = leb-true (d .next + copies p (d .tables) * nodes x) identityLimit e in
-    let room = leb-true (d .tables .used + copies p (d .tables) * nodes x) (roomOf d) q in
-    record { nameable = names; tables = record { limit = omega arith; rows = omega arith; marks = omega arith }; ids = omega arith }
+unfolding written
+fits-room-in p x d e q = record { nameable = named-most p x d e; tables = fits-tables p x d q; ids = fits-ids p x d q }
 
 -- what holds of the insert that has room, and of the document as it was, holds after it
 pub stored-in-cases : (P : Document → Type 0) (p x : List ℕ) (d : Document) → (RoomIn p x d → P (insertedIn p x d)) → P d → P (storedIn p x d)

@@ -17,7 +17,7 @@ use Rattle.selection.specs.Operations.{copiedParent, copyWords, graft}
 use Rattle.selection.proofs.Lists.{below-suc, getD-placed-before, getD-placed, getD-placed-behind, length-placed-all}
 use Rattle.selection.proofs.Presence.{present-used}
 use Rattle.selection.proofs.Keeping.{Kept, Copy, kept-present, copy-present}
-use Rattle.selection.proofs.Up.{Up, top, node, Falls, up-of, way-is}
+use Rattle.selection.proofs.Up.{Up, top, node, Falls, up-of, way-is, hung}
 
 -- two words a node
 pub length-copyWords : (x : List ℕ) (q base n : ℕ) → length (copyWords x q base n) ≡ 2 * n
@@ -127,10 +127,6 @@ module _ (x : List ℕ) (q : ℕ) (d : Doc) where
       go (no l) =
           let e : v ≡ d .used + (v - d .used) = omega arith in
           rw e (copied (v - d .used) (omega arith))
-
--- a node with its words given
-hung : {t : List ℕ} {v u l : ℕ} {w : List ℕ} → 0 < v → parent t v ≡ u → tag t v ≡ l → Up t u w → Up t v (l ∷ w)
-hung h p e r = rw (← e) (node h (rw (← p) at r))
 
 -- ways, and soundness
 module _ (x : List ℕ) (q : ℕ) (d : Doc) (tree : Sound (bare x)) (sound : Sound d) (point : present d q ≡ true) where

@@ -51,13 +51,14 @@ module _ (take : ℕ → ℕ → Bool) (stay : ℕ → Bool) where
   to-runs (pass {i = zero} h r) = rw (h, to-runs r, or-true)
   to-runs (pass {i = suc i} h r) = rw (h, to-runs r, or-true)
 
-module _ (take : ℕ → ℕ → Bool) (few many : ℕ → Bool) where
-  -- where more states may stay, more runs
-  pub run-more : ((j : ℕ) → few j ≡ true → many j ≡ true) → {i : ℕ} {w : List ℕ} → Run take few i w → Run take many i w
-  run-more more (first h) = first h
-  run-more more (step h r) = step h (run-more more r)
-  run-more more (pass {i = i} h r) = pass (more i h) (run-more more r)
+-- where steps take more labels and more states may stay, a run stays one; it asks only of its own state and of those before it
+pub run-more : {take also : ℕ → ℕ → Bool} {few many : ℕ → Bool} {i : ℕ} {w : List ℕ} → ((j l : ℕ) → j ≤ i → take j l ≡ true → also j l ≡ true) → ((j : ℕ) → j ≤ i → few j ≡ true → many j ≡ true)
+    → Run take few i w → Run also many i w
+run-more labels stays (first h) = first (labels 0 _ (omega arith) h)
+run-more labels stays (step {i = i} h r) = step (labels (suc i) _ (omega arith) h) (run-more (λ j l b. labels j l (omega arith)) (λ j b. stays j (omega arith)) r)
+run-more labels stays (pass {i = i} h r) = pass (stays i (omega arith) h) (run-more labels stays r)
 
+module _ (take : ℕ → ℕ → Bool) (few many : ℕ → Bool) where
   -- a run asks only of its own state and of those before it whether they may stay
   pub runs-same : (i : ℕ) → ((j : ℕ) → j ≤ i → few j ≡ many j) → (w : List ℕ) → runs take few i w ≡ runs take many i w
   unfolding runs
@@ -117,7 +118,7 @@ pub run-below : (p : List ℕ) (i : ℕ) (w : List ℕ) → run p false i w ≡ 
 unfolding run
 run-below p i w e =
     to-runs (takes p) (stays p true)
-    (run-more (takes p) (stays p false) (stays p true) (stays-more p) (of-runs (takes p) (stays p false) i w e))
+    (run-more (λ j l h t. t) (λ j h. stays-more p j) (of-runs (takes p) (stays p false) i w e))
 
 -- before the last step the two are one
 pub run-same : (p : List ℕ) (i : ℕ) → suc i < steps p → (w : List ℕ) → run p false i w ≡ run p true i w

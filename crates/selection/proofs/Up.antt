@@ -14,6 +14,10 @@ pub data Up (t : List ℕ) : ℕ → List ℕ → Type 0 where
   top : Up t 0 (tag t 0 ∷ [])
   node : {v : ℕ} {w : List ℕ} → 0 < v → Up t (parent t v) w → Up t v (tag t v ∷ w)
 
+-- a node with its words given
+pub hung : {t : List ℕ} {v u l : ℕ} {w : List ℕ} → 0 < v → parent t v ≡ u → tag t v ≡ l → Up t u w → Up t v (l ∷ w)
+hung h p e r = rw (← e) (node h (rw (← p) at r))
+
 -- P holds of every label
 pub data All (P : ℕ → Type 0) : List ℕ → Type 0 where
   none : All P []

@@ -82,6 +82,10 @@ module _ (p : List ℕ) (limit table : ℕ) (e : patternCheck p limit table ≡ 
   pub accepted-steps : steps p ≤ limit
   accepted-steps = size-within (length p) limit table pattern-size
 
+  -- an accepted pattern has no half step
+  pub accepted-pairs : 2 * steps p ≡ length p
+  accepted-pairs = omega (arith, size-even (length p) limit table pattern-size)
+
 -- and the other way round: a pattern of whole pairs, within the limit, is accepted
 axis-fine : (p : List ℕ) (table : ℕ) → Pattern p → (i : ℕ) → i < steps p → axisCheck p table i ≡ Fine
 unfolding axisCheck axisRight

@@ -13,7 +13,7 @@ use test_parts::numbering::tree;
 use test_parts::show::text;
 
 // The nodes of the witness, 0 for none; 9 where it is refused.
-fn nodes(a: Answer) -> usize {
+pub(crate) fn nodes_of(a: Answer) -> usize {
     if a.refusal == 0 {
         return a.first;
     }
@@ -32,7 +32,7 @@ fn sign(n: usize, deep: bool) -> u8 {
 // The sign of a read and a delete.
 fn of_delete(r: &[u16], p: &[u16]) -> u8 {
     let mut out = [0u16; 10];
-    let n = nodes(sloefertand_delete_verdict(r, p, &mut out));
+    let n = nodes_of(sloefertand_delete_verdict(r, p, &mut out));
     let deep = sloefertand_deep_delete_verdict(r, p);
     sign(n, deep.first == 1)
 }
@@ -40,7 +40,7 @@ fn of_delete(r: &[u16], p: &[u16]) -> u8 {
 // The sign of a read and an insert.
 fn of_insert(r: &[u16], p: &[u16], x: &[u16]) -> u8 {
     let mut out = [0u16; 10];
-    let n = nodes(sloefertand_insert_verdict(r, p, x, &mut out));
+    let n = nodes_of(sloefertand_insert_verdict(r, p, x, &mut out));
     let deep = sloefertand_deep_insert_verdict(r, p, x);
     sign(n, deep.first == 1)
 }

@@ -14,21 +14,24 @@ use test_parts::show::text;
 const BATCHES: usize = 2000;
 
 // The most frames of one.
-const FRAMES: usize = 16;
+pub(crate) const FRAMES: usize = 16;
 
 // Words of the longest.
-const WORDS: usize = 256;
+pub(crate) const WORDS: usize = 256;
 
 // The mode of a plan by node conflicts alone.
-const NODE: usize = 1;
+pub(crate) const NODE: usize = 1;
+
+// The state before the first draw.
+pub(crate) const SEED: u64 = 20261115;
 
 // The state after a draw.
-fn moved(s: u64) -> u64 {
+pub(crate) fn moved(s: u64) -> u64 {
     (s % 2147483648 * 1103515245 + 12345) % 2147483648
 }
 
 // What a state draws below m.
-fn drawn(s: u64, m: usize) -> usize {
+pub(crate) fn drawn(s: u64, m: usize) -> usize {
     if m == 0 {
         return 0;
     }
@@ -36,9 +39,9 @@ fn drawn(s: u64, m: usize) -> usize {
 }
 
 // The words written so far, and the state.
-struct Draft {
-    at: usize,
-    state: u64,
+pub(crate) struct Draft {
+    pub(crate) at: usize,
+    pub(crate) state: u64,
 }
 
 // Words behind those written, if there is room.
@@ -108,7 +111,7 @@ fn framed(b: &mut [u16], d: Draft) -> Draft {
 }
 
 // So many frames.
-fn drafted(b: &mut [u16], frames: usize, state: u64) -> Draft {
+pub(crate) fn drafted(b: &mut [u16], frames: usize, state: u64) -> Draft {
     let mut d = Draft { at: 0, state };
     let mut k = 0;
     while k < frames {
@@ -188,7 +191,7 @@ fn batch_from(state: u64) -> u64 {
 }
 
 pub(crate) fn table() {
-    let mut s = 20261115;
+    let mut s = SEED;
     let mut n = 0;
     while n < BATCHES {
         s = batch_from(s);

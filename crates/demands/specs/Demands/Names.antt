@@ -1,16 +1,16 @@
--- The names that the page of the demands cites: where each is defined and, of a promise, which function makes it. An exported function, sloefertand_ and the
+-- The names that the pages of the demands and of the requests cite: where each is defined and, of a promise, which function makes it. An exported function, sloefertand_ and the
 -- call's name, or sloefertand_v2_ and that of a call that takes identities, promises the same, by the numbers of the answer.
 
 -- numbers, lists and logic, of the kit's library; Perm xs ys: ys has what xs has, in some order
-pub use Prim.Native.Nat.{ℕ, _+_, _*_, _-_, _/_, _<_, _≤_}
+pub use Prim.Native.Nat.{ℕ, suc, _+_, _*_, _-_, _/_, _<_, _≤_}
 pub use mathlib.Core.Path.{_≡_}
 pub use mathlib.Core.Bool.{true, false}
-pub use mathlib.Core.List.{List, [], _∷_, map, Perm}
-pub use mathlib.Core.Logic.{_⊎_, _↔_}
-pub use lib.ListN.{length, getD, take, drop}
+pub use mathlib.Core.List.{List, [], _∷_, _++_, map, Perm}
+pub use mathlib.Core.Logic.{_⊎_, _↔_, _≢_}
+pub use lib.ListN.{length, getD, set, take, drop}
 -- words of tables, documents, refusals; the checks of patterns, trees and documents are promised by the functions of those names
 pub use Rattle.tables.specs.Limits.{treeLimit, batchLimit, digitLimit}
-pub use Rattle.tables.specs.Words.{steps, nodes, tag, Bits16}
+pub use Rattle.tables.specs.Words.{steps, axis, nodes, tag, Bits16}
 pub use Rattle.tables.specs.Patterns.{Pattern}
 pub use Rattle.tables.specs.Documents.{Doc, doc, bare, mark, present, Sound}
 pub use Rattle.tables.specs.declared.refusal.Refusal.{Refusal}
@@ -51,7 +51,7 @@ pub use Rattle.outcomes.specs.declared.updates.Inserted.the-variants as inserte
 pub use Rattle.demands.specs.Updates.{DeletedBy, AllDeletedBy, InsertedBy, NamedBy, Compacts, ClosedBy}
 -- verdicts: NodeVerdict is promised by delete_verdict and insert_verdict, DeepVerdict by deep_delete_verdict and deep_insert_verdict, Checks by
 -- delete_evidence and insert_evidence
-pub use Rattle.conflict.specs.Conflict.{Update, delete, insert, pattern, after as after-update, UpdateBits, Differs, Witness, Conflict, Deep, SmallestWitness, Chain}
+pub use Rattle.conflict.specs.Conflict.{Update, delete, insert, pattern, after as after-update, UpdateBits, Differs, Witness, Conflict, Smallest, Deep, SmallestWitness, Chain}
 pub use Rattle.check_verdict.specs.Order.{verdictCheck, deepCheck}
 pub use Rattle.verdict.specs.Promise.{NodeVerdict, witnessNodes}
 pub use Rattle.verdict_deep.specs.Promise.{DeepVerdict}
@@ -90,6 +90,10 @@ pub use Rattle.older.specs.Answers.{toFrame, toLine, longRead}
 pub use Rattle.batch_frame.specs.Frames.{frameCheck, frameOf, answered}
 pub use Rattle.outcomes.specs.declared.frames.Extent.{Extent}
 pub use Rattle.outcomes.specs.declared.frames.Framed.the-variants as framed
+-- wider reads, updates and batches, and the examples of them
+pub use Rattle.wider.specs.Wider.{WiderPattern, WiderTree, Wider, Accepted, Widened}
+pub use Rattle.wider.specs.Batches.{WiderFrames, WidenedRead}
+pub use Rattle.wider.specs.Examples.{OnlyWider, a/c, a/any, a//d, c-alone, c-and-d}
 -- lines: ReadAs is promised by read_line, WrittenAs by write_line
 pub use Rattle.text_line_in.specs.Lines.{lineCheck, ReadAs}
 pub use Rattle.outcomes.specs.declared.texts.Parsed.the-variants as parsed
