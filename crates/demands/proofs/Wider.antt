@@ -35,14 +35,14 @@ use Rattle.check_evidence.proofs.Accepting.{delete-tree as proposed-delete, ins
 use Rattle.verdict_evidence.specs.Promise.{Checks}
 use Rattle.outcomes.specs.declared.verdicts.Evidence.{Evidence}
 use Rattle.outcomes.specs.declared.verdicts.Evidence.the-variants as evidence
-use Rattle.wider.specs.Wider.{Widened}
-use Rattle.wider.specs.Batches.{WiderFrames, WidenedRead}
+use Rattle.wider.specs.Wider.{deletes, inserts, Widened}
+use Rattle.wider.specs.Batches.{reads, updates, WiderFrames, WidenedRead}
 use Rattle.wider.specs.Examples.{a/c, a/any}
 use Rattle.wider.proofs.Relation.{pair-itself, pair-on, wildcard-wider, descendant-wider, behind-wider}
 use Rattle.wider.proofs.Selecting.{selects-wider}
 use Rattle.wider.proofs.Accepting.{delete-wider, insert-wider, room-wider}
 use Rattle.wider.proofs.Verdicts.{accepted-differs, accepted-witness, accepted-conflict, accepted-deep, accepted-smallest, verdict-wider, deeply-wider}
-use Rattle.wider.proofs.Plans.{number-wider, read-there, update-there, widened-wider, count-same, word-wider, word-stays}
+use Rattle.wider.proofs.Plans.{no-frames, more-frames, number-wider, read-there, update-there, widened-wider, count-same, word-wider, word-stays}
 use Rattle.wider.proofs.Examples.{by-label, by-axis, by-update, by-nodes, not-narrower, not-narrower-deep}
 use Rattle.demands.specs.Demands.{Keeps, example}
 use Rattle.demands.specs.Requests.{any-child, NeverSafer}
@@ -146,6 +146,12 @@ never-safer =
       wildcard = wildcard-wider;
       descendant = descendant-wider;
       behind = behind-wider;
+      with-delete = λ r s p q read update. record { read = read; update = deletes update };
+      with-insert = λ r s p q x y read update tree. record { read = read; update = inserts update tree };
+      no-frames = no-frames;
+      read-frame = λ b c r s wider. more-frames (reads wider);
+      update-frame = λ b c u v wider. more-frames (updates wider);
+      accepted = λ r u words update-words fine. record { read-words = words; update-words = update-words; fine = fine };
       deletes = λ r s p q. delete-wider;
       inserts = λ r s p q x y read update. insert-wider read update;
       room = λ r s u v w words e. room-wider (w .wider) (w .wide) words words e (omega arith);

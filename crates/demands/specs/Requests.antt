@@ -11,7 +11,7 @@ use Rattle.demands.specs.Demands.Names.{ClosedBy, Update, delete, insert
 use Rattle.demands.specs.Demands.Names.{Checks, Evidence, At, number, batchOf, batchCheck, planCheck, relationOf, Mode, PlanBy, PlanOf, Planned, Reply, Called, called, Run, NoRoom}
 use Rattle.demands.specs.Demands.Names.{withMarks, Deletes, total, CalledInTurn, abc, a/b, a//c, SameBatch, Roomy, Refuses, Installation, ours, before-longer, Within, longest, frameIn}
 use Rattle.demands.specs.Demands.Names.{takeIn, batchIn, planIn, pairIn, verdictIn, toFrame, toLine, longRead, frameCheck, frameOf, answered, Extent, WiderPattern, WiderTree, Wider}
-use Rattle.demands.specs.Demands.Names.{Accepted, Widened, WiderFrames, WidenedRead, OnlyWider, a/c, a/any, a//d, c-alone, c-and-d, takeCheck}
+use Rattle.demands.specs.Demands.Names.{UpdateBits, Frame, read, update, WiderUpdate, Accepted, Widened, WiderFrames, WidenedRead, OnlyWider, a/c, a/any, a//d, c-alone, c-and-d, takeCheck}
 use Rattle.demands.specs.Demands.Names.closing
 use Rattle.demands.specs.Demands.Names.deleted
 use Rattle.demands.specs.Demands.Names.verdict
@@ -127,7 +127,14 @@ pub record NeverSafer : Type 0 where
   pub wildcard : (p : List ℕ) (i : ℕ) → WiderPattern p (set p (2 * i + 1) 0)
   pub descendant : (p : List ℕ) (i : ℕ) → axis p (suc i) ≡ 1 → WiderPattern p (set p (2 * suc i) 2)
   pub behind : (x more : List ℕ) → WiderTree x (x ++ more)
-  -- a wider read and delete stay accepted, and a wider read and insert where the wider tree is; a verdict on them has room where it had it
+  -- a wider read with a wider delete, or with a wider insert of a wider tree, is a wider pair; a batch is made wider frame by frame
+  pub with-delete : (r s p q : List ℕ) → WiderPattern r s → WiderPattern p q → Wider r (delete p) s (delete q)
+  pub with-insert : (r s p q x y : List ℕ) → WiderPattern r s → WiderPattern p q → WiderTree x y → Wider r (insert p x) s (insert q y)
+  pub no-frames : WiderFrames [] []
+  pub read-frame : (b c : List (Frame (List ℕ) Update)) (r s : List ℕ) → WiderPattern r s → WiderFrames b c → WiderFrames (read r ∷ b) (read s ∷ c)
+  pub update-frame : (b c : List (Frame (List ℕ) Update)) (u v : Update) → WiderUpdate u v → WiderFrames b c → WiderFrames (update u ∷ b) (update v ∷ c)
+  -- what no verdict refuses is accepted; a wider read and delete stay accepted, and a wider read and insert where the wider tree is; a verdict on them has room where it had it
+  pub accepted : (r : List ℕ) (u : Update) → Bits16 r → UpdateBits u → deepCheck r u ≡ Fine → Accepted r u
   pub deletes : (r s p q : List ℕ) → WiderPattern r s → WiderPattern p q → Accepted r (delete p) → Accepted s (delete q)
   pub inserts : (r s p q x y : List ℕ) → WiderPattern r s → WiderPattern p q → Accepted r (insert p x) → Bits16 y → treeCheck y treeLimit 3 ≡ Fine → Accepted s (insert q y)
   pub room : (r s : List ℕ) (u v : Update) → Widened r u s v → (words : ℕ) → verdictCheck r u words ≡ Fine → verdictCheck s v words ≡ Fine

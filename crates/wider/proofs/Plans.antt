@@ -1,7 +1,7 @@
 -- In a plan a read's slot never moves towards 0 where frames are made wider; where one read is, all other words stay.
 use Prim.Native.Nat.{ℕ, zero, suc, _<_, _≤_}
 use mathlib.Core.Path.{_≡_, refl, sym, _∙_, subst}
-use mathlib.Core.List.{List}
+use mathlib.Core.List.{List, [], _∷_}
 use mathlib.Core.Logic.{_≢_}
 use native.Mathlib.Decide.{ℕ-discrete}
 use native.Mathlib.Nat.{le-antisymm}
@@ -11,7 +11,7 @@ use Rattle.tables.specs.Words.{Bits16}
 use Rattle.tables.specs.Checks.{outputCheck}
 use Rattle.tables.proofs.Accepted.{then-first}
 use Rattle.conflict.specs.Conflict.{Update}
-use Rattle.order.specs.Frames.{Frame, read, update, At, earlier, number}
+use Rattle.order.specs.Frames.{Frame, read, update, At, here, there, earlier, number}
 use Rattle.order.specs.Model.{Fits}
 use Rattle.order.specs.Fitting.{Fit, FitUpdate, FitFrame}
 use Rattle.order.proofs.Places.{at-one, at-below, by-kind, not-both, apart}
@@ -45,6 +45,17 @@ no-read w = elim w [ ]
 frame-itself : (f : Frame (List ℕ) Update) → WiderFrame f f
 frame-itself (read r) = reads (pattern-itself r)
 frame-itself (update u) = updates (update-itself u)
+
+-- a batch is made wider frame by frame
+pub no-frames : WiderFrames [] []
+no-frames = record { frames = refl; each = λ p q. absurd (omega (arith, at-below p)) }
+
+pub more-frames : {f g : Frame (List ℕ) Update} {b c : List (Frame (List ℕ) Update)} → WiderFrame f g → WiderFrames b c → WiderFrames (f ∷ b) (g ∷ c)
+more-frames {f} {g} {b} {c} first rest = record { frames = omega (arith, rest .frames); each = both }
+  where
+    both : {k : ℕ} {d e : Frame (List ℕ) Update} → At (f ∷ b) k d → At (g ∷ c) k e → WiderFrame d e
+    both here here = first
+    both (there p) (there q) = rest .each p q
 
 -- what a mode asks of a read and an update holds of a wider pair
 related-wider : (m : Mode) {r s : List ℕ} {u v : Update} → Fit r → FitUpdate u → FitUpdate v → Wider r u s v → relationOf m r u → relationOf m s v

@@ -91,7 +91,7 @@ pub use Rattle.batch_frame.specs.Frames.{frameCheck, frameOf, answered}
 pub use Rattle.outcomes.specs.declared.frames.Extent.{Extent}
 pub use Rattle.outcomes.specs.declared.frames.Framed.the-variants as framed
 -- wider reads, updates and batches, and the examples of them
-pub use Rattle.wider.specs.Wider.{WiderPattern, WiderTree, Wider, Accepted, Widened}
+pub use Rattle.wider.specs.Wider.{WiderPattern, WiderTree, WiderUpdate, Wider, Accepted, Widened}
 pub use Rattle.wider.specs.Batches.{WiderFrames, WidenedRead}
 pub use Rattle.wider.specs.Examples.{OnlyWider, a/c, a/any, a//d, c-alone, c-and-d}
 -- lines: ReadAs is promised by read_line, WrittenAs by write_line
