@@ -1,4 +1,6 @@
 // Batches: how many frames one has, or its refusal.
+#![tactic(auto)]
+
 ghost use Rattle.std.specs.Prelude.{◌≡◌, length};
 ghost use Rattle.batch_check.specs.Batches.{batch_of, check_from, batch_check, plan_check, counted_of};
 

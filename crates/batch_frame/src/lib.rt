@@ -1,4 +1,6 @@
 // One frame of a batch, read where it stands: the place of a refusal is decided here.
+#![tactic(auto)]
+
 ghost use Rattle.std.specs.Prelude.{◌≡◌, ◌+◌, ◌<◌, length};
 ghost use Rattle.tables.specs.Checks.{◌then◌};
 ghost use Rattle.batch_parts.specs.Parts.{steps_check};

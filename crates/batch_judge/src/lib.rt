@@ -1,5 +1,7 @@
 // Whether the read at one place of a batch conflicts with the update at another, by the mode's verdict on the parts of the batch where they stand.
 // What the verdict refuses is answered as a conflict: a read that stays where it is can do no harm.
+#![tactic(auto)]
+
 ghost use Rattle.std.specs.Prelude.{◌+◌, ◌*◌, ◌-◌, ◌≡◌, true, ◌↔◌, length};
 ghost use Rattle.tables.specs.Limits.{step_limit};
 ghost use Rattle.conflict.specs.Conflict.{delete, insert, Conflict, Deep};

@@ -1,4 +1,6 @@
 // The two modes of a plan and their numbers.
+#![tactic(auto)]
+
 ghost use Rattle.std.specs.Prelude.{◌≡◌};
 ghost use Rattle.batch_mode.specs.Modes.{mode_check, mode_of};
 

@@ -1,4 +1,6 @@
 // The counted parts of a frame: its steps, and the nodes of an insert.
+#![tactic(auto)]
+
 ghost use Rattle.std.specs.Prelude.{◌≡◌, ◌-◌, ◌≤◌, cond, eqb, length};
 ghost use Rattle.tables.specs.Limits.{step_limit, tree_limit};
 ghost use Rattle.tables.specs.Checks.{pattern_check, tree_check};

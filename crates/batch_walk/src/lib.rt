@@ -1,4 +1,6 @@
 // What stands at a place of a batch, frame after frame: thin functions over the reading of a frame.
+#![tactic(auto)]
+
 ghost use Rattle.std.specs.Prelude.{◌≡◌};
 ghost use Rattle.batch_frame.specs.Frames.{frame_at};
 ghost use Rattle.batch_walk.specs.Walking.{answer_of, step_at, place_after, number_after, part_at};

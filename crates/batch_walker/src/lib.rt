@@ -1,4 +1,6 @@
 // The frame walker: it keeps the lent batch and its own place, and gives one frame after another.
+#![tactic(auto)]
+
 ghost use Rattle.std.specs.Prelude.{◌≡◌};
 ghost use Rattle.batch_walk.specs.Walking.{step_at, place_after, number_after, part_at};
 

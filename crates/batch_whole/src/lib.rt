@@ -1,4 +1,6 @@
 // A frame that takes all words from its place on.
+#![tactic(auto)]
+
 ghost use Rattle.std.specs.Prelude.{◌≡◌};
 ghost use Rattle.batch_whole.specs.Whole.{whole_check};
 

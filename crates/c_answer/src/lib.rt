@@ -1,2 +1,4 @@
 // One form of answer for every operation.
+#![tactic(auto)]
+
 pub mod answer;

@@ -1,4 +1,6 @@
 // The numbers of each answer, as they go out to C and Rust: a refusal, or the values.
+#![tactic(auto)]
+
 ghost use Rattle.std.specs.Prelude.{◌≡◌};
 ghost use Rattle.c_numbers.specs.Numbers.{of_checked, of_deleted, of_inserted, of_compacted, of_mended, of_verdict, of_deeply, of_evidence, of_stepped, of_planned, of_parsed, of_spelled, of_printed};
 

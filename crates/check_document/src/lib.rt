@@ -1,4 +1,6 @@
 // The check of a document, by document 01's order.
+#![tactic(auto)]
+
 ghost use Rattle.std.specs.Prelude.{ℕ, max, ◌<◌, ◌≤◌, ◌≡◌, false, ◌↔◌, length, get_or};
 ghost use Rattle.tables.specs.Limits.{used_limit};
 ghost use Rattle.tables.specs.Words.{nodes};

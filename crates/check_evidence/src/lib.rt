@@ -1,4 +1,6 @@
 // What the check of a proposed tree admits, by document 02's order.
+#![tactic(auto)]
+
 ghost use Rattle.std.specs.Prelude.{◌≡◌, ltb};
 ghost use Rattle.tables.specs.Limits.{tree_limit};
 ghost use Rattle.tables.specs.Words.{steps};

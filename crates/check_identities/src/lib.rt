@@ -1,4 +1,6 @@
 // The check of identities, and of a document with them.
+#![tactic(auto)]
+
 ghost use Rattle.std.specs.Prelude.{ℕ, pred, ◌<◌, ◌≤◌, ◌≡◌, false, ◌↔◌, length, get_or};
 ghost use Rattle.tables.specs.Documents.{doc};
 ghost use Rattle.tables.specs.Checks.{◌then◌, document_check};

@@ -1,4 +1,6 @@
 // The check of a pattern, by document 01's order.
+#![tactic(auto)]
+
 ghost use Rattle.std.specs.Prelude.{◌≡◌};
 ghost use Rattle.tables.specs.Checks.{each, axis_right, axis_check, pattern_check};
 

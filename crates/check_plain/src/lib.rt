@@ -1,4 +1,6 @@
 // The refusals of a plain reading, by document 01's order.
+#![tactic(auto)]
+
 ghost use Rattle.std.specs.Prelude.{◌≡◌};
 ghost use Rattle.tables.specs.Limits.{plain_steps};
 ghost use Rattle.tables.specs.Checks.{◌then◌, pattern_check, output_check};

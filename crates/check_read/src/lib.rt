@@ -1,4 +1,6 @@
 // The refusals of a read, by document 01's order.
+#![tactic(auto)]
+
 ghost use Rattle.std.specs.Prelude.{◌≡◌};
 ghost use Rattle.tables.specs.Limits.{step_limit};
 ghost use Rattle.tables.specs.Documents.{doc};

@@ -1,4 +1,6 @@
 // How long a table or an output may be: refusals 1, 2 and 7.
+#![tactic(auto)]
+
 ghost use Rattle.std.specs.Prelude.{◌≡◌};
 ghost use Rattle.tables.specs.Checks.{size_check, output_check};
 

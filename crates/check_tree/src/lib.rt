@@ -1,4 +1,6 @@
 // The check of a tree, by document 01's order, and of the nodes of a tree or a document.
+#![tactic(auto)]
+
 ghost use Rattle.std.specs.Prelude.{◌≡◌, ltb};
 ghost use Rattle.tables.specs.Words.{tag};
 ghost use Rattle.tables.specs.Checks.{each, parent_right, node_check, tree_check};

@@ -1,4 +1,6 @@
 // What a verdict admits: its checks, by document 01's order.
+#![tactic(auto)]
+
 ghost use Rattle.std.specs.Prelude.{◌≡◌, ltb};
 ghost use Rattle.tables.specs.Words.{steps};
 ghost use Rattle.tables.specs.Checks.{refuse, test};

@@ -1,1 +1,3 @@
+#![tactic(auto)]
+
 // Compaction: definitions and laws only.

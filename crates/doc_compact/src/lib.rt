@@ -1,4 +1,6 @@
 // Compaction, for every caller.
+#![tactic(auto)]
+
 mod closing;
 
 ghost use Rattle.identities.specs.Documents.{document};

@@ -1,4 +1,6 @@
 // One copy of a tree into the free rest of a document, under a node of it.
+#![tactic(auto)]
+
 ghost use Rattle.std.specs.Prelude.{◌+◌, ◌*◌, ◌/◌, ◌%◌, ◌≤◌, ◌≡◌, ◌++◌, leb, length, drop};
 ghost use Rattle.tables.specs.Limits.{used_limit, word_limit};
 ghost use Rattle.tables.specs.Words.{nodes};

@@ -1,4 +1,6 @@
 // Delete, for every caller.
+#![tactic(auto)]
+
 mod striking;
 
 ghost use Rattle.std.specs.Prelude.{◌≤◌, ◌≡◌, ltb, length};

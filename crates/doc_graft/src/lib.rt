@@ -1,4 +1,6 @@
 // Copies of a tree into a document, one under each chosen node.
+#![tactic(auto)]
+
 ghost use Rattle.std.specs.Prelude.{◌≡◌, cond, eqb};
 ghost use Rattle.tables.specs.Documents.{doc};
 ghost use Rattle.selection.specs.Lists.{rising};

@@ -1,4 +1,6 @@
 // Insert, for every caller.
+#![tactic(auto)]
+
 mod naming;
 
 ghost use Rattle.std.specs.Prelude.{◌+◌, ◌*◌, ◌/◌, ◌≤◌, ◌≡◌, length};

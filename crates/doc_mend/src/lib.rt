@@ -1,4 +1,6 @@
 // Mending the marks of a document, for every caller.
+#![tactic(auto)]
+
 mod marks;
 
 ghost use Rattle.std.specs.Prelude.{◌≡◌};

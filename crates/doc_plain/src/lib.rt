@@ -1,4 +1,6 @@
 // The plain reading: slow, and as near to document 01's words as code can be.
+#![tactic(auto)]
+
 ghost use Rattle.std.specs.Prelude.{◌≡◌, cond, ◌++◌, drop};
 ghost use Rattle.tables.specs.Words.{nodes, tag};
 ghost use Rattle.selection.specs.Lists.{tab};

@@ -1,4 +1,6 @@
 // The room of an insert: how many copies there are to make, and whether there are identities and room for them.
+#![tactic(auto)]
+
 ghost use Rattle.std.specs.Prelude.{◌/◌, min, ◌≡◌, leb};
 ghost use Rattle.tables.specs.Limits.{identity_limit};
 ghost use Rattle.tables.specs.Documents.{capacity};

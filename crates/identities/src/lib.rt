@@ -1,1 +1,3 @@
+#![tactic(auto)]
+
 // Identities: definitions and laws only.

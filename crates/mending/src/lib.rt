@@ -1,1 +1,3 @@
+#![tactic(auto)]
+
 // Mending: definitions and laws only.

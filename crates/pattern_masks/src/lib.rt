@@ -1,4 +1,6 @@
 // The masks of a pattern, a word of 64 steps at a time, from the step `from` on.
+#![tactic(auto)]
+
 ghost use Rattle.std.specs.Prelude.{◌-◌, ◌<◌, min, ◌≡◌, false, ◌&&◌, ◌||◌, eqb, get_or};
 ghost use Rattle.tables.specs.Limits.{word_limit};
 ghost use Rattle.selection.specs.Ways.{stays};

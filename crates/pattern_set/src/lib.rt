@@ -1,4 +1,6 @@
 // Sets of steps in numbers of 64 bits, a word at a time.
+#![tactic(auto)]
+
 ghost use Rattle.std.specs.Prelude.{◌≡◌, ◌&&◌, ◌||◌, eqb};
 ghost use Rattle.pattern_set.specs.Sets.{bit, next_set, Word};
 

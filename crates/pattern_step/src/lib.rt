@@ -1,4 +1,6 @@
 // One step of a pattern: whether it stays.
+#![tactic(auto)]
+
 ghost use Rattle.std.specs.Prelude.{◌≡◌};
 ghost use Rattle.selection.specs.Ways.{stays};
 

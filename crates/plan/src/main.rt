@@ -1,4 +1,6 @@
 // The plan printer: lines from standard input, their plan or the first refusal to standard output.
+#![tactic(auto)]
+
 ghost use Rattle.std.specs.Prelude.{◌≤◌, ◌≡◌, length};
 ghost use Rattle.text_printer.specs.Enough.{printed_most, input_most};
 ghost use Rattle.plan.specs.Plan.{TextAt, Within};

@@ -1,10 +1,10 @@
 -- Selection by embeddings is the run over the labels from the node up to the root.
 use Prim.Native.Nat.{ℕ, zero, suc, ◌<◌, ◌≤◌}
 use mathlib.Core.Path.{◌≡◌, refl, sym, ◌∙◌, ap}
-use mathlib.Core.Bool.{true, false, cond, false≢true}
-use mathlib.Core.List.{List, []}
+use mathlib.Core.Bool.{Bool, true, false, cond, false≢true}
+use mathlib.Core.List.{List, [], ◌∷◌, cons≢nil}
 use mathlib.Core.Logic.Iff
-use mathlib.Core.Logic.{◌⊎◌, ⊎_elim, ◌↔◌}
+use mathlib.Core.Logic.{◌⊎◌, inl, inr, ⊎_elim, ◌↔◌}
 use native.Mathlib.Nat.{eq-or-lt_of_le, le-pred_of_lt, le_of_eq, suc-pred-eq_of_pos}
 use native.Mathlib.Omega.{arith}
 use lib.Dec.{leb}
@@ -147,14 +147,37 @@ module _ (p : List ℕ) (d : Doc) where
   linger h stay (on c) = above stay c (one (child_of_lem h))
   linger h stay (above also c b) = above stay c (more b (child_of_lem h))
 
+  -- what a way of v is: the root's label alone, or v's label before a way of its parent
+  abbrev Opens : ℕ → List ℕ → Type 0
+  Opens v [] = ⊥
+  Opens v (l ∷ w) = (l ≡ tag d.rows v) × (((v ≡ 0) × (w ≡ [])) ⊎ ((0 < v) × Up d.rows (parent d.rows v) w))
+
+  opens : {v : ℕ} {w : List ℕ} → Up d.rows v w → Opens v w
+  opens top = (refl, inl (refl, refl))
+  opens (node k u) = (refl, inr (k, u))
+
+  no_run : {A : Type 0} {take : ℕ → ℕ → Bool} {stay : ℕ → Bool} {i : ℕ} {w : List ℕ} → w ≡ [] → Run take stay i w → A
+  no_run e (first h) = absurd (cons≢nil e)
+  no_run e (step h r) = absurd (cons≢nil e)
+  no_run e (pass h r) = absurd (cons≢nil e)
+
   -- a run over the way of a present node lands its steps on present nodes
   lands : Sound d → {i v : ℕ} {w : List ℕ} → Run (takes p) (stays p false) i w → Up d.rows v w → present d v ≡ true → Landed p d i v
-  lands sound (first h) top here = on (start (record { here = here; labelled = of-takes p 0 _ h }))
-  lands sound (first h) (node k u) here = absurd (no_way u)
-  lands sound (step {i = i} h r) (node {v = v} k u) here =
-      on (land k (record { here = here; labelled = of-takes p (suc i) _ h }) (lands sound r u (sound.closed v k here)))
-  lands sound (pass stay r) (node {v = v} k u) here =
-      linger k stay (lands sound r u (sound.closed v k here))
+  lands sound {v = v} (first {l = l} h) u here =
+      ⊎_elim
+      (λ root. rw root.0 (on (start (record { here = rw root.0 at here; labelled = of-takes p 0 _ (rw root.0 at (rw (opens u).0 at h)) }))))
+      (λ more. absurd (no_way more.1))
+      (opens u).1
+  lands sound {v = v} (step {i = i} h r) u here =
+      ⊎_elim
+      (λ root. no_run root.1 r)
+      (λ more. on (land more.0 (record { here = here; labelled = of-takes p (suc i) _ (rw (opens u).0 at h) }) (lands sound r more.1 (sound.closed v more.0 here))))
+      (opens u).1
+  lands sound {v = v} (pass stay r) u here =
+      ⊎_elim
+      (λ root. no_run root.1 r)
+      (λ more. linger more.0 stay (lands sound r more.1 (sound.closed v more.0 here)))
+      (opens u).1
 
   -- the last state cannot stay
   landed-last : {v : ℕ} → Landed p d (last p) v → Chain p d (last p) v

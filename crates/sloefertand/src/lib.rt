@@ -1,4 +1,6 @@
 // The library for C and Rust: every public operation over lent slices and plain numbers, with one form of answer.
+#![tactic(auto)]
+
 pub mod batches;
 pub mod checking;
 pub mod evidence;

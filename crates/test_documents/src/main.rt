@@ -1,4 +1,6 @@
 // Documents over the proved library, by the functions that other languages link: the tables over them that the second program prints too. `stdout` holds what that program printed.
+#![tactic(auto)]
+
 mod documents;
 mod either_order;
 mod id_edges;

@@ -1,4 +1,6 @@
 // What the programs over small inputs share: small patterns and trees by number, rows by number, draws, digests and text to standard output.
+#![tactic(auto)]
+
 pub mod answers;
 pub mod chosen;
 pub mod digest;

@@ -1,4 +1,6 @@
 // Everything small, and some large trees, over the proved library, by the functions that other languages link: the tables of pairs, batches, lines, evidence and what is wider that the second program prints too. `stdout` holds what that program printed.
+#![tactic(auto)]
+
 mod damage;
 mod damaged_evidence;
 mod evidence;

@@ -1,4 +1,6 @@
 // Texts over the proved library, of patterns and of tags, by the functions that other languages link: the tables of them that the second program prints too. `stdout` holds what that program printed.
+#![tactic(auto)]
+
 mod deep_tags;
 mod paired;
 mod read_tags;

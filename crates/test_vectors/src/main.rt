@@ -1,5 +1,7 @@
 // Run vectors: a script that fills tables, calls the library that other languages link, and shows what each call answered and left. `stdin`
 // is the script, and its first lines say how to read it; `stdout` is what it should print, worked out from the documents.
+#![tactic(auto)]
+
 mod calls;
 mod identities;
 mod numbers;

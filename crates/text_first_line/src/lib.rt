@@ -1,4 +1,6 @@
 // The first line of an input, which may name the mode of the plan.
+#![tactic(auto)]
+
 ghost use Rattle.std.specs.Prelude.{◌/◌, ◌≡◌, length};
 ghost use Rattle.tables.specs.Limits.{digit_limit};
 ghost use Rattle.text_first_line.specs.FirstLine.{mode_line_check};

@@ -1,4 +1,6 @@
 // Lines: from a line's bytes to a frame's words.
+#![tactic(auto)]
+
 ghost use Rattle.std.specs.Prelude.{◌≡◌, ◌++◌, ◌+◌, ◌*◌, ◌/◌, ◌<◌, ◌≤◌, length, get_or, drop};
 ghost use Rattle.tables.specs.Checks.{◌then◌, each, output_check};
 ghost use Rattle.selection.specs.Lists.{tab};

@@ -1,4 +1,6 @@
 // Written lines: from words to the bytes of their line.
+#![tactic(auto)]
+
 ghost use Rattle.std.specs.Prelude.{◌≡◌, ◌++◌, ◌-◌, ◌*◌, ◌/◌, ◌%◌, ◌^◌, ◌<◌, ◌≤◌, length, drop};
 ghost use Rattle.selection.specs.Lists.{tab};
 ghost use Rattle.text_digits.specs.Digits.{byte_of, byte_at};

@@ -1,4 +1,6 @@
 // Parts of a text: where the next byte of one kind stands.
+#![tactic(auto)]
+
 ghost use Rattle.std.specs.Prelude.{◌≡◌};
 ghost use Rattle.text_parts.specs.Next.{next};
 

@@ -1,4 +1,6 @@
 // From a pattern's text to its table.
+#![tactic(auto)]
+
 mod scan;
 mod steps;
 

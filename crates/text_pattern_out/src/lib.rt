@@ -1,4 +1,6 @@
 // Patterns as text: from a pattern's words to its text, with a list of names.
+#![tactic(auto)]
+
 mod check;
 mod list;
 mod put;

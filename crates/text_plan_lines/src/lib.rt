@@ -1,4 +1,6 @@
 // Printed lines, words and a line feed each: a refusal's line of four words, or a line of three a frame.
+#![tactic(auto)]
+
 ghost use Rattle.std.specs.Prelude.{◌+◌, ◌*◌, ◌%◌, ◌≤◌, ◌≡◌, [], ◌∷◌, ◌++◌, length, drop};
 ghost use Rattle.tables.specs.Limits.{word_limit};
 ghost use Rattle.text_plan_lines.specs.Printing.{printed_line, refusal_text, plan_text, Answered};

@@ -1,4 +1,6 @@
 // The plan printer: from lines to the plan of their frames, in the mode that the first line may name, or to the first refusal.
+#![tactic(auto)]
+
 ghost use Rattle.std.specs.Prelude.{◌+◌, ◌/◌, ◌≤◌, ◌≡◌, length};
 ghost use Rattle.tables.specs.Limits.{batch_limit, digit_limit, frame_limit};
 ghost use Rattle.tables.specs.declared.refusal.Checked.TheVariants.{Fine};

@@ -1,4 +1,6 @@
 // Trees from tags: from a text to its tree's words.
+#![tactic(auto)]
+
 mod levels;
 mod rows;
 mod scan;

@@ -1,4 +1,6 @@
 // Trees as nested tags: from a tree's words to its text.
+#![tactic(auto)]
+
 mod bytes;
 mod decimal;
 mod links;

@@ -1,4 +1,6 @@
 // The deep verdict, yes or no: a node conflict, or an update point at or below a node that the read selects.
+#![tactic(auto)]
+
 ghost use Rattle.std.specs.Prelude.{◌≡◌, cond};
 ghost use Rattle.conflict.specs.Conflict.{delete, insert};
 ghost use Rattle.outcomes.specs.declared.verdicts.Deeply.TheVariants.{No, Yes};

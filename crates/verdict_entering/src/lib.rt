@@ -1,4 +1,6 @@
 // From which states a read enters an inserted tree.
+#![tactic(auto)]
+
 mod rows;
 
 ghost use Rattle.std.specs.Prelude.{◌≡◌};

@@ -1,4 +1,6 @@
 // Another shop's witness: whether a read's set of nodes on a proposed tree differs before and after an update, and at which node first.
+#![tactic(auto)]
+
 mod copy;
 mod found;
 mod gained;

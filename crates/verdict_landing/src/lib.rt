@@ -1,4 +1,6 @@
 // The label at which a move of a read and an update lands.
+#![tactic(auto)]
+
 ghost use Rattle.std.specs.Prelude.{◌≡◌};
 ghost use Rattle.tables.specs.Words.{tag};
 ghost use Rattle.conflict.specs.Meeting.{shared};

@@ -1,4 +1,6 @@
 // The shortest way on which a read and an update meet, counted and written.
+#![tactic(auto)]
+
 mod fill;
 mod moves;
 mod numbers;

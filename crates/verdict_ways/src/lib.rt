@@ -1,4 +1,6 @@
 // The shortest way on which a read and an update show a conflict, counted and written; and the tests of the deep verdict, by one way each.
+#![tactic(auto)]
+
 ghost use Rattle.std.specs.Prelude.{◌<◌, ◌≡◌, false, [], length};
 ghost use Rattle.tables.specs.Limits.{step_limit};
 ghost use Rattle.tables.specs.Checks.{where_fine};
