@@ -121,6 +121,10 @@ module _ (a b : ℕ → ℕ) (s u : ℕ → Bool) where
   within (step {i = i} p r) (pass {i = j} e t) = read_within i j e (within r t)
   within (pass {i = i} e r) (step {i = j} q t) = update_within i j e (within r t)
   within (pass e r) (pass d t) = omega (arith, within r t)
+  within (first {l = l} p) (step {i = j} q t) = elim t [ ]
+  within {j = j} (first {l = l} p) (pass e t) = elim t [ ]
+  within (step {i = i} {l = l} p r) (first q) = elim r [ ]
+  within (pass {i = i} {l = l} e r) (first q) = elim r [ ]
 
   -- where both run on some way, there is a meeting, and it is no longer
   pub fewest-within : (i j : ℕ) (w : List ℕ) → Common (runs (asks a) s i) (runs (asks b) u j) w → Within (fewest a b s u i j) (length w)

@@ -27,7 +27,7 @@ module _ {Doc Read Update : Type 0} (apply : Update → Doc → Doc) where
   unfolding ran
   ran_keeps {b = []} keeps k h = h
   ran_keeps {b = f ∷ b} keeps zero h = keeps.kept here h
-  ran_keeps {P} {b = f ∷ b} keeps (suc k) h = ran_keeps {P = P} (record { kept = λ p. keeps.kept (there p) }) k h
+  ran_keeps {P} {b = f ∷ b} keeps (suc k) h = ran_keeps {P = P} {b = b} (record { kept = λ p. keeps.kept (there p) }) k h
 
   -- by the first frame of an order: what frame i meets
   pub met_cases : (P : Doc → Type 0) (b : List (Frame Read Update)) (k : ℕ) (o : List ℕ) (d : Doc) (i : ℕ)

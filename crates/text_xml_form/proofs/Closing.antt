@@ -30,7 +30,7 @@ less_closed : {ls a : List ℕ} → Open ls a → Begins RightTags (a ++ (60 ∷
 unfolding short_tag element_name
 less_closed {a = a} o = front a (60 ∷ []) (110 ∷ (decimal 1 ++ (47 ∷ 62 ∷ []))) (short_tag 1) refl (short_closed 1 o (to_label 1 (omega arith) (omega arith)))
 
-name_closed : {ls a w : List ℕ} {v : ℕ} → Open ls a → Name v w → v < word_limit → Begins RightTags (a ++ (60 ∷ 110 ∷ w))
+name_closed : {ls a : List ℕ} {v : ℕ} {w : List ℕ} → Open ls a → Name v w → v < word_limit → Begins RightTags (a ++ (60 ∷ 110 ∷ w))
 unfolding short_tag element_name
 name_closed {a = a} o no_digit b =
     front a (60 ∷ 110 ∷ []) (decimal 1 ++ (47 ∷ 62 ∷ [])) (short_tag 1) refl (short_closed 1 o (to_label 1 (omega arith) (omega arith)))

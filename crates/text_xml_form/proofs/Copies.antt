@@ -52,7 +52,7 @@ copied {t} (drawn {c = c} {f = f} {more = more} {below = below} {others = others
     let behind = rw (drawn_size d) at (along_behind (suc n) below others r) in
     copy node q p.under p.named (copied d p.inside (along_first (suc n) below others r)) (copied o p.behind behind)
 
-copied-held : {t u cs : List ℕ} {e : Elements} {old : ℕ → ℕ} {v n : ℕ} → Copied t u old v n cs e → Held u v n e
+copied-held : {t u : List ℕ} {old : ℕ → ℕ} {cs : List ℕ} {e : Elements} {v n : ℕ} → Copied t u old v n cs e → Held u v n e
 copied-held no_copy = no_row
 copied-held (copy node q p l i m) = row node p l (copied-held i) (copied-held m)
 

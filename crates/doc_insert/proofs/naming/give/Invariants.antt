@@ -1,0 +1,13 @@
+-- The identities below k are given, the others as they were.
+use Prim.Native.Nat.{◌+◌, ◌-◌, ◌≤◌}
+use mathlib.Core.Path.{◌≡◌}
+use mathlib.Core.List.{◌++◌}
+use lib.ListN.{drop}
+use Rattle.selection.specs.Lists.{tab}
+use Rattle.doc_insert.proofs.naming.give.Given as goal
+
+abbrev pub invariant-loop-k : goal.invariant-loop-k
+invariant-loop-k l = (l.k ≤ l.n) × (l.free ≡ tab (λ i. l.next + i) l.k ++ drop l.k l.initial.free)
+
+abbrev pub decreases-loop-k : goal.decreases-loop-k
+decreases-loop-k l = l.n - l.k

@@ -1,0 +1,16 @@
+-- The changes are counted, the room is asked, and they are made or nothing is.
+use native.Mathlib.Omega.{arith}
+use Rattle.doc_mend.proofs.Promises.{changes_few, list_room, written_done, written_refused}
+use Rattle.doc_mend.proofs.marks.written.Goals as goal
+
+pub overflow_mul-n : goal.overflow_mul-n
+overflow_mul-n c = record { fits = omega (arith, c.change_count-n.ensures, changes_few _ c.requires) }
+
+pub put_all-requires : goal.put_all-requires
+put_all-requires c = (c.requires, list_room _ c.change_count-n.ensures c.output.ensures c.in-Fine.is)
+
+pub returns-in-Fine : goal.returns-in-Fine
+returns-in-Fine c = search written_done
+
+pub returns-in-Refused : goal.returns-in-Refused
+returns-in-Refused c = search written_refused

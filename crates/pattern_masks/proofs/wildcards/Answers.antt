@@ -1,0 +1,13 @@
+use Prim.Native.Nat.{◌-◌}
+use borrow.Author.Rules.{rules}
+use Rattle.pattern_masks.proofs.Passing.{word_start, word_more, word_end, wild_below, wild_there}
+use Rattle.pattern_masks.proofs.wildcards.Goals as goal
+
+pub loop-i-init : goal.loop-i-init
+loop-i-init c = (search rules, word_start _ _)
+
+pub loop-i-preserved : goal.loop-i-preserved
+loop-i-preserved c = (search rules, word_more _ _ _ c.loop-i.invariant.1 (wild_there _ _ c.second_word.ensures (search rules)) c.put-s.ensures)
+
+pub returns : goal.returns
+returns c = word_end _ _ _ c.loop-i.invariant.1 _ c.loop-i.invariant.0 c.loop-i-test.false c.held-m.ensures (wild_below _)
