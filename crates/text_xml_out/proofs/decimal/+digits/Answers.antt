@@ -25,4 +25,3 @@ overflow_add-result t c = omega (arith, c.digits.ensures, length-least (c.args.n
 
 pub returns : goal.returns
 returns t c = omega (arith, c.digits.ensures, length_beyond c.args.n (omega (arith, c.if-n-lt100000.false)))
-

@@ -39,4 +39,3 @@ shape_of-out t c = wrote_long (tags_of c.args.t.now c.args.v) c.args.out.now c.a
 
 pub returns : goal.returns
 returns t c = closed c.args.t.now c.args.first.now c.args.next.now c.args.v c.args.out.now c.args.at c.requires c.second_word-label.ensures c.word-child.ensures c.if-child-eq0.false c.put_start-to.ensures c.loop-child.invariant.1 c.loop-child-test.false c.put_end.ensures
-
