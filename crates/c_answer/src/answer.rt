@@ -6,7 +6,7 @@ use tables::refusal::Refusal;
 
 // A refusal's number, 0 for none, with the table at fault and the place; then the values, 0 where unused or refused.
 #[repr(C)]
-#[derive(Drop)]
+#[derive(Clone, Copy)]
 pub struct Answer {
     pub refusal: usize,
     pub table: usize,
