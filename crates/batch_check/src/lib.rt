@@ -11,7 +11,7 @@ use tables::limits::BATCH_LIMIT;
 use tables::refusal::{Checked, Refusal};
 
 // What checking a batch answers: a refusal, or how many frames it has.
-#[derive(Drop)]
+#[derive(Clone, Copy)]
 pub enum Counted {
     Refused(Refusal),
     Frames(usize),

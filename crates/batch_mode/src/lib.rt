@@ -7,7 +7,7 @@ ghost use Rattle.batch_mode.specs.Modes.{mode_check, mode_of};
 use tables::refusal::{Checked, refused};
 
 // Node: a read's nodes count. Deep: also what lies below them.
-#[derive(Drop)]
+#[derive(Clone, Copy)]
 pub enum Mode {
     Node,
     Deep,

@@ -8,7 +8,7 @@ use batch_walk::{frame_part, number_after, place_after, step};
 use outcomes::frames::Stepped;
 
 // The lent batch, the place of the next frame in it, and that frame's number.
-#[derive(Drop)]
+#[derive(Clone, Copy)]
 pub struct Walker<'a> {
     pub batch: &'a [u16],
     pub at: usize,

@@ -88,8 +88,8 @@ unfolding shape_check used_check
 shapes_of d = search (chained, tested, walked, nodes-of)
 
 tables_of : (d : Doc) → OnlyNumbered (document_check d)
-unfolding document_check mark_check
-tables_of d = search (chained, tested, walked, shapes_of)
+unfolding document_check used_check mark_check
+tables_of d = search (chained, tested, walked, nodes-of)
 
 identities_of : (ids : List ℕ) (used next : ℕ) → OnlyNumbered (identities_check ids used next)
 unfolding identities_check identity_check

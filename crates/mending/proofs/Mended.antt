@@ -1,6 +1,6 @@
 -- The marks of a mended document: where they stand, and that the document then meets no refusal.
 use Prim.Native.Nat.{ℕ, zero, suc, ◌<◌, ◌≤◌}
-use mathlib.Core.Path.{◌≡◌, refl}
+use mathlib.Core.Path.{◌≡◌, refl, ◌∙◌}
 use native.Mathlib.Nat.{zero-add}
 use native.Mathlib.Omega.{arith}
 use lib.ListN.{length, get_or, drop}
@@ -10,7 +10,7 @@ use Rattle.tables.specs.Documents.{Doc, doc, mark}
 use Rattle.tables.specs.Checks.{each, used_check, shape_check, mark_right, mark_check, document_check}
 use Rattle.tables.specs.declared.refusal.Checked.TheVariants.{Fine}
 use Rattle.tables.proofs.Accepted.{each_all, then_both}
-use Rattle.tables.proofs.Soundness.{shape_facts}
+use Rattle.tables.proofs.Soundness.{shape_facts, document_parts}
 use Rattle.selection.proofs.Lists.{get_or-tab-before, get_or-tab-behind, length-tab-drop}
 use Rattle.identities.specs.Documents.{Document}
 use Rattle.identities.specs.Checks.{identities_check, whole_check}
@@ -63,9 +63,9 @@ module _ (d : Doc) (shape : shape_check d ≡ Fine) where
 
   -- so the mended tables meet no refusal
   pub mended-document : document_check (doc d.rows (mended_marks d) d.used) ≡ Fine
-  unfolding document_check
   mended-document =
-      then_both (shape_check (mended_tables d)) (each (mark_check d.rows (mended_marks d)) 0 d.used) shape_stays
+      document_parts (mended_tables d)
+      ∙ then_both (shape_check (mended_tables d)) (each (mark_check d.rows (mended_marks d)) 0 d.used) shape_stays
       (each_all (mark_check d.rows (mended_marks d)) 0 d.used (λ v h. rw zero-add (mark_right_lem v h)))
 
 -- nor does the document, where its identities are right

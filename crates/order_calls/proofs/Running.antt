@@ -32,6 +32,7 @@ pub run-place : {b : List (Frame (List ℕ) Update)} {o : List ℕ} {d last e : 
     Run b o d calls last → At calls i (called k e a) → At o i k
 run-place (next at call rest) here = here
 run-place (next at call rest) (there p) = there (run-place rest p)
+run-place {b = b} {e = e} {i = i} {k = k} {a = a} (over {d = d}) x6 = elim x6 [ ]
 
 -- each frame of the order has its call, at its place
 pub run-has : {b : List (Frame (List ℕ) Update)} {o : List ℕ} {d last : Document} {calls : List Called} {i k : ℕ} → Run b o d calls last → At o i k → Has calls i k
@@ -39,6 +40,7 @@ run-has (next at call rest) here = record { met = _; answer = _; at = here }
 run-has (next at call rest) (there p) =
     let h = run-has rest p in
     record { met = h.met; answer = h.answer; at = there h.at }
+run-has {b = b} {i = i} {k = k} (over {d = d}) x6 = elim x6 [ ]
 
 module _ {b : List (Frame (List ℕ) Update)} (fitting : Fits FitFrame b) (callable : Fits Callable b) where
   kept : (f : Frame (List ℕ) Update) → FitFrame f → {d : Document} → AcceptedDocument d → AcceptedDocument (act updated f d)
@@ -67,6 +69,7 @@ module _ {b : List (Frame (List ℕ) Update)} (fitting : Fits FitFrame b) (calla
       let again : At o i k = subst (λ (n : ℕ). At o i n) (sym same) (run-place rest p) in
       absurd (omega (arith, once.once here (there again))))
       (λ other. rw (← leaves accepted at call) (run-met (stays accepted at call) (once_tail once) rest p))
+  run-met {e = e} {i = i} {k = j} {a = a} accepted once (over {d = d}) x16 = elim x16 [ ]
 
   -- what was called at a place of a run: its frame, on an accepted document
   pub record Made (k : ℕ) (e : Document) (a : Reply) : Type 0 where
@@ -80,6 +83,7 @@ module _ {b : List (Frame (List ℕ) Update)} (fitting : Fits FitFrame b) (calla
       Run b o d calls last → At calls i (called k e a) → Made k e a
   run_made accepted (next at call rest) here = record { frame = _; at = at; accepted = accepted; left = _; call = call }
   run_made accepted (next at call rest) (there p) = run_made (stays accepted at call) rest p
+  run_made {e = e} {i = i} {k = k} {a = a} accepted (over {d = d}) x11 = elim x11 [ ]
 
   -- the frame of a place is known
   pub made_frame : {k : ℕ} {e : Document} {a : Reply} {f : Frame (List ℕ) Update} (m : Made k e a) → At b k f → Call f e a m.left

@@ -2,7 +2,7 @@
 use tables::refusal::Refusal;
 
 // The number of frames, or a refusal.
-#[derive(Drop)]
+#[derive(Clone, Copy)]
 pub enum Planned {
     Refused(Refusal),
     Frames(usize),

@@ -2,21 +2,21 @@
 use tables::refusal::Refusal;
 
 // What reading a line answers: how many words it has.
-#[derive(Drop)]
+#[derive(Clone, Copy)]
 pub enum Parsed {
     Refused(Refusal),
     Words(usize),
 }
 
 // What writing words answers: how many digits they take.
-#[derive(Drop)]
+#[derive(Clone, Copy)]
 pub enum Spelled {
     Refused(Refusal),
     Digits(usize),
 }
 
 // What printing answers: how many bytes it wrote.
-#[derive(Drop)]
+#[derive(Clone, Copy)]
 pub enum Printed {
     Refused(Refusal),
     Bytes(usize),

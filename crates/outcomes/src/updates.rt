@@ -2,28 +2,28 @@
 use tables::refusal::Refusal;
 
 // What a delete answers: a refusal, or how many nodes it newly removed.
-#[derive(Drop)]
+#[derive(Clone, Copy)]
 pub enum Deleted {
     Refused(Refusal),
     Removed(usize),
 }
 
 // What an insert answers: a refusal, or how many copies it made, the new used count and the new next identity.
-#[derive(Drop)]
+#[derive(Clone, Copy)]
 pub enum Inserted {
     Refused(Refusal),
     Copied(usize, usize, usize),
 }
 
 // What a compaction answers: a refusal, or the new used count and how many nodes it dropped.
-#[derive(Drop)]
+#[derive(Clone, Copy)]
 pub enum Compacted {
     Refused(Refusal),
     Closed(usize, usize),
 }
 
 // What a mending answers: a refusal, or how many marks ended up different.
-#[derive(Drop)]
+#[derive(Clone, Copy)]
 pub enum Mended {
     Refused(Refusal),
     Changed(usize),

@@ -2,7 +2,7 @@
 use tables::refusal::Refusal;
 
 // Refused; no conflict; or a conflict, with the number of nodes of the witness written.
-#[derive(Drop)]
+#[derive(Clone, Copy)]
 pub enum Verdict {
     Refused(Refusal),
     Clear,
@@ -10,7 +10,7 @@ pub enum Verdict {
 }
 
 // Refused, no or yes.
-#[derive(Drop)]
+#[derive(Clone, Copy)]
 pub enum Deeply {
     Refused(Refusal),
     No,
@@ -18,7 +18,7 @@ pub enum Deeply {
 }
 
 // Refused; no difference; or a difference, with the first node that is lost or new.
-#[derive(Drop)]
+#[derive(Clone, Copy)]
 pub enum Evidence {
     Refused(Refusal),
     Same,

@@ -1,6 +1,6 @@
 -- What the checks accept: a pattern, a sound tree, a sound document. Bits16 are below 2 ^ 16.
 use Prim.Native.Nat.{ℕ, zero, suc, ◌+◌, ◌*◌, ◌/◌, ◌%◌, ◌<◌, ◌≤◌}
-use mathlib.Core.Path.{◌≡◌, refl}
+use mathlib.Core.Path.{◌≡◌, refl, sym, ◌∙◌}
 use mathlib.Core.Bool.{Bool, true, false, ◌&&◌, ◌||◌, and-eq-true_iff}
 use mathlib.Core.List.{List}
 use mathlib.Core.Logic.{◌⊎◌, inl, inr, ⊎_map}
@@ -11,12 +11,12 @@ use lib.Dec.{eqb, ltb, leb}
 use lib.ListN.{length}
 use borrow.Author.Tests.{eqb-true, ltb-true, leb-true, eq-eqb, ne_eqb, lt-ltb, le-leb}
 use Rattle.tables.specs.declared.refusal.Checked.{Checked}
-use Rattle.tables.specs.declared.refusal.Checked.TheVariants.{Fine}
+use Rattle.tables.specs.declared.refusal.Checked.TheVariants.{Fine, Refused}
 use Rattle.tables.specs.Limits.{used_limit}
 use Rattle.tables.specs.Words.{steps, axis, nodes, parent, tag, Bits16}
 use Rattle.tables.specs.Patterns.{Pattern}
 use Rattle.tables.specs.Documents.{Doc, bare, mark, Sound}
-use Rattle.tables.specs.Checks.{refuse, test, each, size_check, axis_right, axis_check, pattern_check, parent_right, node_check, tree_check, used_right, used_check, mark_right, mark_check, shape_check, document_check}
+use Rattle.tables.specs.Checks.{refuse, ◌then◌, test, each, size_check, axis_right, axis_check, pattern_check, parent_right, node_check, tree_check, used_right, used_check, mark_right, mark_check, shape_check, document_check}
 use Rattle.tables.proofs.Accepted.{held, then_first, then_second, each_fine, each_all}
 
 -- one of two tests holds
@@ -187,10 +187,18 @@ module _ (d : Doc) (e : shape_check d ≡ Fine) where
         leb-true n (length d.marks) (and_second (leb n (length d.rows / 2)) (leb n (length d.marks)) w),
       )
 
+then_assoc : (a b c : Checked) → ((a then b) then c) ≡ (a then b then c)
+then_assoc Fine b c = refl
+then_assoc (Refused r) b c = refl
+
+-- a document's check is that of its shape, then that of its marks
+pub document_parts : (d : Doc) → document_check d ≡ (shape_check d then each (mark_check d.rows d.marks) 0 d.used)
+unfolding document_check shape_check
+document_parts d = sym (then_assoc (used_check d) (each (node_check d.rows 5) 0 d.used) (each (mark_check d.rows d.marks) 0 d.used))
+
 module _ (d : Doc) (e : document_check d ≡ Fine) where
   pub document_shape : shape_check d ≡ Fine
-  unfolding document_check
-  document_shape = then_first (shape_check d) (each (mark_check d.rows d.marks) 0 d.used) e
+  document_shape = then_first (shape_check d) (each (mark_check d.rows d.marks) 0 d.used) (sym (document_parts d) ∙ e)
 
   pub document-nodes : each (node_check d.rows 5) 0 d.used ≡ Fine
   document-nodes = shape_nodes d document_shape
@@ -200,10 +208,10 @@ module _ (d : Doc) (e : document_check d ≡ Fine) where
   used_facts = shape_facts d document_shape
 
   mark_at : (v : ℕ) → v < d.used → mark_right d.rows d.marks v ≡ true
-  unfolding document_check mark_check
+  unfolding mark_check
   mark_at v h =
       held (mark_right d.rows d.marks v) _
-      (each_at (mark_check d.rows d.marks) d.used (then_second (shape_check d) (each (mark_check d.rows d.marks) 0 d.used) e) v h)
+      (each_at (mark_check d.rows d.marks) d.used (then_second (shape_check d) (each (mark_check d.rows d.marks) 0 d.used) (sym (document_parts d) ∙ e)) v h)
 
   -- marks are 0 or 1
   pub mark-bit : (v : ℕ) → v < d.used → mark d v ≤ 1

@@ -82,7 +82,8 @@ mark_check t m v = test (mark_right t m v) (refuse 12 5 0)
 
 -- a document: 12 for the used count, node by node 4 then 5, 12 for marks
 unfoldable pub document_check : Doc → Checked
-document_check d = shape_check d then each (mark_check d.rows d.marks) 0 d.used
+document_check d =
+    used_check d then each (node_check d.rows 5) 0 d.used then each (mark_check d.rows d.marks) 0 d.used
 
 -- 7: the output is too short, of so many words or bytes where so many are wanted
 unfoldable pub output_check : ℕ → ℕ → Checked

@@ -3,7 +3,7 @@ ghost use Rattle.tables.specs.Checks.{refuse};
 
 // A refusal: its number, the table at fault (1 read, 2 update, 3 inserted tree, 4 output or room, 5 document, 6 batch, 7 text, 8 list of
 // names), and a place.
-#[derive(Drop)]
+#[derive(Clone, Copy)]
 pub struct Refusal {
     pub number: usize,
     pub table: usize,
@@ -11,7 +11,7 @@ pub struct Refusal {
 }
 
 // What a check answers.
-#[derive(Drop)]
+#[derive(Clone, Copy)]
 pub enum Checked {
     Fine,
     Refused(Refusal),

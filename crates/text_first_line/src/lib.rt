@@ -17,7 +17,7 @@ use text_parts::next_byte;
 
 // What the first line is: one of frames, or one that is refused as such; a mode line, with its mode and where the lines behind it begin; or one that
 // is of a mode line's kind and is refused.
-#[derive(Drop)]
+#[derive(Clone, Copy)]
 pub enum First {
     Frames,
     Named(Mode, usize),

@@ -20,14 +20,14 @@ use text_parts::next_byte;
 use text_plan_lines::{print_frames, print_refusal};
 
 // What taking a line answers: how many words are in use behind it.
-#[derive(Drop)]
+#[derive(Clone, Copy)]
 enum Taken {
     Refused(Refusal),
     Words(usize),
 }
 
 // How the lines end: at which line, behind how many words, and why; or all are taken, with the frames and the words in use.
-#[derive(Drop)]
+#[derive(Clone, Copy)]
 enum Ran {
     Stopped(usize, usize, Refusal),
     All(usize, usize),

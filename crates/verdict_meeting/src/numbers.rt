@@ -12,7 +12,7 @@ use tables::words::{second_word, word};
 
 // A cell: how many labels the shortest way to it has, 0 for none, and the move at the nearest of them: 0, both land; 1, the read lands;
 // 2, the update lands.
-#[derive(Drop)]
+#[derive(Clone, Copy)]
 pub(crate) struct Cell {
     pub(crate) number: usize,
     pub(crate) step: u8,

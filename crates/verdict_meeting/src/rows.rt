@@ -11,7 +11,7 @@ use crate::moves::is_sooner;
 use tables::words::{byte, word};
 
 // A state, and how many labels its way has, 0 for none.
-#[derive(Drop)]
+#[derive(Clone, Copy)]
 pub(crate) struct Best {
     pub(crate) number: usize,
     pub(crate) state: usize,

@@ -1,0 +1,15 @@
+-- The branches of the code are those of the definition.
+use Rattle.batch_whole.proofs.Branches.{behind-over, behind_why, behind_fine, behind-left}
+use Rattle.batch_whole.proofs.frame_checked.Goals as goal
+
+pub returns-then-b-gt-BATCH_LIMIT : goal.returns-then-b-gt-BATCH_LIMIT
+returns-then-b-gt-BATCH_LIMIT c = behind-over c.args.b.now c.args.n c.args.at c.if-b-gt-BATCH_LIMIT.true c.refused.ensures
+
+pub returns-then-f-b : goal.returns-then-f-b
+returns-then-f-b c = behind_fine _ _ _ c.if-b-gt-BATCH_LIMIT.false c.read_frame.ensures c.in-Found.is c.if-f-b.true
+
+pub returns-in-Refused : goal.returns-in-Refused
+returns-in-Refused c = behind_why _ _ _ c.if-b-gt-BATCH_LIMIT.false c.read_frame.ensures c.in-Refused.is
+
+pub returns-else-f-b : goal.returns-else-f-b
+returns-else-f-b c = behind-left _ _ _ c.if-b-gt-BATCH_LIMIT.false c.read_frame.ensures c.in-Found.is c.if-f-b.false c.refused-in-Found.ensures

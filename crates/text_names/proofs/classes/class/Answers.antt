@@ -1,0 +1,8 @@
+-- An entry of the table is the class of its byte.
+use borrow.Author.Rules.{rules}
+use Rattle.text_names.proofs.Rule.{classes, class_at}
+use Rattle.text_names.proofs.classes.class.Goals as goal
+
+pub returns : goal.returns
+unfolding classes
+returns c = class_at _ (search rules)

@@ -1,0 +1,14 @@
+-- The check, and where it is fine the test.
+use mathlib.Core.Path.{◌≡◌, refl, sym, ◌∙◌}
+use mathlib.Core.Bool.{false}
+use Rattle.tables.proofs.Branches.{fine_on, fine_off}
+use Rattle.verdict_ways.proofs.insert_deep.Goals as goal
+
+pub entered_or_hit-requires : goal.entered_or_hit-requires
+entered_or_hit-requires c = sym c.deep_insert_check.ensures ∙ c.in-Fine.is
+
+pub returns-in-Fine : goal.returns-in-Fine
+returns-in-Fine c = fine_on (λ b. c.entered_or_hit.result ≡ b) c.deep_insert_check.ensures _ _ c.in-Fine.is c.entered_or_hit.ensures
+
+pub returns-in-Refused : goal.returns-in-Refused
+returns-in-Refused c = fine_off (λ b. false ≡ b) c.deep_insert_check.ensures _ _ c.in-Refused.is refl
