@@ -2,7 +2,6 @@
 use Prim.Native.Nat.{ℕ}
 use mathlib.Core.Path.{◌≡◌, refl}
 use mathlib.Core.Bool.{Bool, true, false, ◌||◌}
-use mathlib.Core.List.{List}
 use mathlib.Core.Logic.{◌⊎◌, inl, inr, ◌↔◌}
 use lib.Dec.{eqb}
 use borrow.Author.Tests.{eqb-true, ne_eqb}
@@ -11,7 +10,6 @@ use Rattle.tables.specs.declared.refusal.Checked.{Checked}
 use Rattle.tables.specs.declared.refusal.Checked.TheVariants.{Fine}
 use Rattle.tables.proofs.Accepted.{held}
 use Rattle.batch_mode.specs.Modes.{mode_check, mode_of}
-use Rattle.batch_mode.specs.declared.Mode.{Mode}
 use Rattle.batch_mode.specs.declared.Mode.TheVariants.{Node, Deep}
 
 module _ (w : ℕ) where

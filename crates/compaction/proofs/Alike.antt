@@ -14,7 +14,7 @@ use Rattle.selection.specs.Ways.{up}
 use Rattle.selection.proofs.Presence.{present_used}
 use Rattle.selection.proofs.Selecting.{selects_by_labels}
 use Rattle.selection.proofs.Up.{Up, top, node, way_is, way_of}
-use Rattle.identities.specs.Documents.{Document, identity, SoundDocument}
+use Rattle.identities.specs.Documents.{Document, SoundDocument}
 use Rattle.identities.specs.Showing.{SelectsIdentity, IdentityBelow, SameIdentities, SameIdentitiesBelow}
 use Rattle.identities.proofs.Showing.{identity_one}
 use Rattle.compaction.specs.Alike.{Paired, Partner, Alike}

@@ -3,13 +3,12 @@ use Prim.Native.Nat.{ℕ, zero, suc, ◌+◌, ◌<◌, ◌≤◌}
 use native.Mathlib.Nat.{not-suc-le-zero}
 use native.Mathlib.Omega.{arith}
 use mathlib.Core.Path.{◌≡◌}
-use mathlib.Core.Bool.{Bool, true, false, cond, false≢true, or-true}
+use mathlib.Core.Bool.{true, false, cond}
 use mathlib.Core.List.{List, []}
 use lib.ListN.{length}
 use Rattle.tables.specs.Limits.{word_limit}
 use Rattle.tables.specs.Words.{label}
 use Rattle.selection.specs.Ways.{run, last}
-use Rattle.selection.proofs.Runs.{either}
 use Rattle.selection.proofs.Lists.{below_suc}
 use Rattle.conflict.specs.Meeting.{meeting_of}
 use Rattle.conflict.specs.Crossing.{enters, entering}

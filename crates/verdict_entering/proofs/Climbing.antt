@@ -11,7 +11,7 @@ use lib.Dec.{eqb}
 use lib.ListN.{length, get_or, set, length-set}
 use lib.Seq.{get_or-set_same, get_or-set_other}
 use borrow.Author.Tests.{eq-eqb, ne_eqb, eqb-true, not-true, not-false}
-use Rattle.tables.specs.Limits.{step_limit, tree_limit, word_limit}
+use Rattle.tables.specs.Limits.{step_limit, word_limit}
 use Rattle.tables.specs.Words.{steps, label, nodes, parent, tag}
 use Rattle.selection.specs.Ways.{up, takes, stays, last}
 use Rattle.selection.proofs.Up.{Up, top, node, up_is, up_node, up_top}

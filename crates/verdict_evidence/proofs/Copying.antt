@@ -1,29 +1,28 @@
 -- One copy of an accepted tree x under a node q of an accepted tree t, in tables with room for both: it is the graft, no read of it is refused, and the
 -- read selects a node of the copy exactly as its way over the copy and then over q's way says.
 use Prim.Native.Nat.{ℕ, zero, suc, ◌+◌, ◌*◌, ◌<◌, ◌≤◌}
-use mathlib.Core.Path.{◌≡◌, refl, sym, ◌∙◌, ap}
-use mathlib.Core.Bool.{true, cond}
+use mathlib.Core.Path.{◌≡◌, ◌∙◌}
+use mathlib.Core.Bool.{true}
 use mathlib.Core.List.{List, ◌++◌}
 use native.Mathlib.Decide.{dec_lt}
 use native.Mathlib.Omega.{arith}
 use lib.ListN.{length, get_or, drop}
 use borrow.Author.Tests.{le-leb}
-use Rattle.tables.specs.Limits.{step_limit, tree_limit, used_limit, word_limit}
+use Rattle.tables.specs.Limits.{tree_limit, word_limit}
 use Rattle.tables.specs.Words.{nodes, parent, tag, Bits16}
 use Rattle.tables.specs.Documents.{Doc, doc, bare, mark, present, capacity, Sound}
-use Rattle.tables.specs.Checks.{document_check, tree_check}
+use Rattle.tables.specs.Checks.{document_check}
 use Rattle.tables.specs.declared.refusal.Checked.{Checked}
 use Rattle.tables.specs.declared.refusal.Checked.TheVariants.{Fine}
 use Rattle.tables.proofs.Soundness.{accepted_tree, accepted_nodes, accepted_some, accepted_whole, sound_accepted}
 use Rattle.selection.specs.Lists.{tab}
-use Rattle.selection.specs.Ways.{up, selected}
-use Rattle.selection.specs.Operations.{copied_parent, graft, read_row}
+use Rattle.selection.specs.Ways.{up}
+use Rattle.selection.specs.Operations.{copied_parent, graft}
 use Rattle.selection.proofs.Lists.{get_or-tab-before, get_or-tab-behind, length-tab-drop}
 use Rattle.selection.proofs.Presence.{is_present, present_used}
 use Rattle.selection.proofs.Up.{Up, top, node, up_is, up_of}
 use Rattle.selection.proofs.Keeping.{copy_selected}
 use Rattle.selection.proofs.Grafting.{copied_below, graft_used, old_mark, copy_mark, old_or_copied, graft_marks_length, graft_copy, graft_sound}
-use Rattle.check_read.specs.Readable.{read_tables_check}
 use Rattle.doc_read.specs.Reading.{ReadTables}
 use Rattle.doc_copy.specs.Copying.{fitting, copied}
 use Rattle.doc_copy.proofs.Laws.{copied-graft}

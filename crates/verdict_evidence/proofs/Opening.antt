@@ -1,6 +1,6 @@
 -- The first update point whose copy has a selected node: at it a step stands from which the read enters.
 use Prim.Native.Nat.{ℕ, pred, ◌+◌, ◌*◌, ◌<◌, ◌≤◌}
-use mathlib.Core.Path.{◌≡◌, sym, ◌∙◌}
+use mathlib.Core.Path.{◌≡◌, ◌∙◌}
 use mathlib.Core.Bool.{Bool, true, false, ◌&&◌, cond}
 use mathlib.Core.List.{List}
 use native.Mathlib.Nat.{mul-le-mul}
@@ -10,7 +10,7 @@ use lib.ListN.{get_or}
 use borrow.Author.Tests.{lt-ltb, le-ltb}
 use Rattle.tables.specs.Limits.{step_limit, tree_limit}
 use Rattle.tables.specs.Words.{steps, nodes}
-use Rattle.tables.specs.Documents.{bare, present}
+use Rattle.tables.specs.Documents.{bare}
 use Rattle.tables.specs.declared.refusal.Checked.TheVariants.{Fine}
 use Rattle.tables.specs.Checks.{where_fine}
 use Rattle.selection.specs.Lists.{tab, count, somewhere}

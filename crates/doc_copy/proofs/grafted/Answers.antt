@@ -1,9 +1,5 @@
 -- The copier's words and the marks of the copy, in the place of the free ones.
-use Prim.Native.Nat.{◌+◌, ◌≤◌}
 use native.Mathlib.Omega.{arith}
-use lib.ListN.{length}
-use Rattle.tables.specs.Documents.{capacity}
-use Rattle.tables.specs.Words.{nodes}
 use Rattle.doc_copy.proofs.Grafting.{graft_none, room, free_copyable, graft-back}
 use mathlib.Core.Path.{ap}
 use mathlib.Core.Bool.{not}

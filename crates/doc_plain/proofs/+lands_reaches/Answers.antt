@@ -1,5 +1,5 @@
 -- Each branch is one law of landing.
-use Rattle.doc_plain.proofs.Landing.{land_not, land_first, land_root, land_on, land_child, land_reach, reach_root, reach_on, reach_more, ask_before, ask_same}
+use Rattle.doc_plain.proofs.Landing.{land_not, land_first, land_root, land_on, land_child, land_reach, reach_root, reach_on, reach_more}
 use Rattle.doc_plain.proofs.+lands_reaches.Goals as goal
 
 pub lands-returns-then-not-agrees : goal.lands-returns-then-not-agrees
