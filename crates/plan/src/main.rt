@@ -5,8 +5,9 @@ ghost use Rattle.std.specs.Prelude.{◌≤◌, ◌≡◌, length};
 ghost use Rattle.text_printer.specs.Enough.{printed_most, input_most};
 ghost use Rattle.plan.specs.Plan.{TextAt, Within};
 
-use libc::{STDERR_FILENO, STDIN_FILENO, STDOUT_FILENO};
 use outcomes::texts::Printed;
+use std::io;
+use std::io::{Read, Stdin, Stdout};
 use tables::limits::{BATCH_LIMIT, DIGIT_LIMIT, FRAME_LIMIT};
 use text_printer::print;
 
@@ -43,10 +44,10 @@ fn text(input: &[u8], out: &mut [u8]) -> usize
 }
 
 // What is printed for these bytes.
-fn print_all(input: &[u8]) {
+fn print_all(stdout: Stdout, input: &[u8]) -> io::Result<()> {
     let mut out = output_room();
     let n = text(input, &mut out);
-    io::write_all(STDOUT_FILENO, &out[0..n]);
+    stdout.write_all(&out[0..n])
 }
 
 // How reading the input ends: a read failed, or so many bytes came.
@@ -57,16 +58,15 @@ enum Input {
 }
 
 // Reads until the input ends or there is no more room.
-fn read_input(input: &mut [u8]) -> Input
+fn read_input(stdin: Stdin, input: &mut [u8]) -> Input
     ensures { Within input.new result }
 {
+    let mut reader = stdin;
     let mut n = 0;
     while n < input.len() {
-        let got = libc::read(STDIN_FILENO, &mut input[n..]);
-        if got < 0 {
+        let Ok(more) = reader.read(&mut input[n..]) else {
             return Input::Failed;
-        }
-        let more = io::count(got, &input[n..]);
+        };
         if more == 0 {
             return Input::Bytes(n);
         }
@@ -75,13 +75,13 @@ fn read_input(input: &mut [u8]) -> Input
     Input::Bytes(n)
 }
 
-// Where a read fails, nothing is printed.
-fn main() {
+// Where a read fails, nothing is printed. Where a write fails, the program ends with its error.
+fn main(rt: HostRuntime) -> io::Result<()> {
     let mut input = input_room();
-    match read_input(&mut input) {
-        Input::Failed => {
-            io::write_all(STDERR_FILENO, b"plan: the input could not be read\n");
-        }
-        Input::Bytes(n) => print_all(&input[0..n]),
+    match read_input(rt.stdin(), &mut input) {
+        Input::Failed => rt
+            .stderr()
+            .write_all(b"plan: the input could not be read\n"),
+        Input::Bytes(n) => print_all(rt.stdout(), &input[0..n]),
     }
 }

@@ -11,24 +11,21 @@ use c_answer::answer::Answer;
 use c_numbers::{planned, stepped};
 
 // Frame n at a place of the batch. First: its kind, 0 where none is left; second: where it ends; third: its steps; fourth: its nodes.
-#[unsafe(no_mangle)]
-pub extern "C" fn sloefertand_step(b: &[u16], n: usize, at: usize) -> Answer
+pub fn sloefertand_step(b: &[u16], n: usize, at: usize) -> Answer
     ensures { result ≡ of_stepped (step_at b.now n at) }
 {
     stepped(step(b, n, at))
 }
 
 // The deep plan of a batch, one word a frame. First: the frames.
-#[unsafe(no_mangle)]
-pub extern "C" fn sloefertand_plan(b: &[u16], out: &mut [u16]) -> Answer
+pub fn sloefertand_plan(b: &[u16], out: &mut [u16]) -> Answer
     ensures { Told of_planned (Plan b.now out.old out.new) result }
 {
     planned(plan(b, out))
 }
 
 // The plan in the mode of this number: 1 for node, 2 for deep. First: the frames.
-#[unsafe(no_mangle)]
-pub extern "C" fn sloefertand_plan_in(mode: usize, b: &[u16], out: &mut [u16]) -> Answer
+pub fn sloefertand_plan_in(mode: usize, b: &[u16], out: &mut [u16]) -> Answer
     ensures { Told of_planned (PlanIn mode b.now out.old out.new) result }
 {
     planned(plan_in(mode, b, out))

@@ -12,24 +12,21 @@ use check_pattern::pattern;
 use check_tree::tree;
 
 // A pattern of at most `limit` steps: refusals 1, 2, 3, at this table.
-#[unsafe(no_mangle)]
-pub extern "C" fn sloefertand_check_pattern(p: &[u16], limit: usize, table: usize) -> Answer
+pub fn sloefertand_check_pattern(p: &[u16], limit: usize, table: usize) -> Answer
     ensures { result ≡ of_checked (pattern_check p.now limit table) }
 {
     checked(pattern(p, limit, table))
 }
 
 // A tree of at most `limit` nodes: refusals 1, 2, then node by node 4 before 5, at this table.
-#[unsafe(no_mangle)]
-pub extern "C" fn sloefertand_check_tree(t: &[u16], limit: usize, table: usize) -> Answer
+pub fn sloefertand_check_tree(t: &[u16], limit: usize, table: usize) -> Answer
     ensures { result ≡ of_checked (tree_check t.now limit table) }
 {
     checked(tree(t, limit, table))
 }
 
 // A document: 12 for the used count, node by node 4 then 5, 12 for marks, 12 for identities.
-#[unsafe(no_mangle)]
-pub extern "C" fn sloefertand_v2_check_document(
+pub fn sloefertand_v2_check_document(
     rows: &[u16],
     marks: &[u8],
     used: usize,

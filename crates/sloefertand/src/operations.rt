@@ -18,8 +18,7 @@ use doc_plain::plain_reading;
 use doc_read::read::read;
 
 // Read: one byte a used node, 1 if the pattern selects it, else 0. No value.
-#[unsafe(no_mangle)]
-pub extern "C" fn sloefertand_v2_read(
+pub fn sloefertand_v2_read(
     p: &[u16],
     rows: &[u16],
     marks: &[u8],
@@ -34,16 +33,14 @@ pub extern "C" fn sloefertand_v2_read(
 }
 
 // The plain reading of a small bare tree: one byte a node. No value.
-#[unsafe(no_mangle)]
-pub extern "C" fn sloefertand_plain_reading(p: &[u16], t: &[u16], row: &mut [u8]) -> Answer
+pub fn sloefertand_plain_reading(p: &[u16], t: &[u16], row: &mut [u8]) -> Answer
     ensures { Told of_checked (PlainRead p.now t.now row.old row.new) result }
 {
     checked(plain_reading(p, t, row))
 }
 
 // Delete: selected nodes and all below are marked as removed. First: how many newly.
-#[unsafe(no_mangle)]
-pub extern "C" fn sloefertand_v2_delete(
+pub fn sloefertand_v2_delete(
     p: &[u16],
     rows: &[u16],
     marks: &mut [u8],
@@ -57,8 +54,7 @@ pub extern "C" fn sloefertand_v2_delete(
 }
 
 // Insert: a copy of x under each selected node. First: the copies; second: the new used count; third: the new next identity.
-#[unsafe(no_mangle)]
-pub extern "C" fn sloefertand_v2_insert(
+pub fn sloefertand_v2_insert(
     p: &[u16],
     x: &[u16],
     rows: &mut [u16],
@@ -73,8 +69,7 @@ pub extern "C" fn sloefertand_v2_insert(
 }
 
 // Compaction: removed nodes are dropped, and the rest is closed up in order. First: the new used count; second: how many were dropped.
-#[unsafe(no_mangle)]
-pub extern "C" fn sloefertand_compact(
+pub fn sloefertand_compact(
     rows: &mut [u16],
     marks: &mut [u8],
     used: usize,
@@ -88,8 +83,7 @@ pub extern "C" fn sloefertand_compact(
 
 // Mending: the marks are made those of a sound document, and the list takes three words for each that ended up different: node number, old mark, new mark.
 // First: how many.
-#[unsafe(no_mangle)]
-pub extern "C" fn sloefertand_mend(
+pub fn sloefertand_mend(
     rows: &[u16],
     marks: &mut [u8],
     used: usize,

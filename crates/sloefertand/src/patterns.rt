@@ -10,16 +10,14 @@ use text_pattern_in::read_pattern;
 use text_pattern_out::write_pattern;
 
 // From a pattern's text to its table. First: the words.
-#[unsafe(no_mangle)]
-pub extern "C" fn sloefertand_read_pattern(list: &[u8], s: &[u8], words: &mut [u16]) -> Answer
+pub fn sloefertand_read_pattern(list: &[u8], s: &[u8], words: &mut [u16]) -> Answer
     ensures { Told of_parsed (ReadText list.now s.now words.old words.new) result }
 {
     parsed(read_pattern(list, s, words))
 }
 
 // From a pattern's table to its text. First: the bytes.
-#[unsafe(no_mangle)]
-pub extern "C" fn sloefertand_write_pattern(list: &[u8], p: &[u16], out: &mut [u8]) -> Answer
+pub fn sloefertand_write_pattern(list: &[u8], p: &[u16], out: &mut [u8]) -> Answer
     ensures { Told of_printed (WriteText list.now p.now out.old out.new) result }
 {
     printed(write_pattern(list, p, out))

@@ -12,24 +12,21 @@ use text_line_out::write_line;
 use text_printer::print;
 
 // From a line's bytes to its words; the line's number is its place in a refusal. First: the words.
-#[unsafe(no_mangle)]
-pub extern "C" fn sloefertand_read_line(s: &[u8], line: usize, words: &mut [u16]) -> Answer
+pub fn sloefertand_read_line(s: &[u8], line: usize, words: &mut [u16]) -> Answer
     ensures { Told of_parsed (ReadAs s.now line words.old words.new) result }
 {
     parsed(read_line(s, line, words))
 }
 
 // From words to the bytes of their line. First: the digits.
-#[unsafe(no_mangle)]
-pub extern "C" fn sloefertand_write_line(ws: &[u16], out: &mut [u8]) -> Answer
+pub fn sloefertand_write_line(ws: &[u16], out: &mut [u8]) -> Answer
     ensures { Told of_spelled (WrittenAs ws.now out.old out.new) result }
 {
     spelled(write_line(ws, out))
 }
 
 // From lines to the printed plan of their frames, or to the line of the first refusal. First: the bytes.
-#[unsafe(no_mangle)]
-pub extern "C" fn sloefertand_print(input: &[u8], out: &mut [u8]) -> Answer
+pub fn sloefertand_print(input: &[u8], out: &mut [u8]) -> Answer
     ensures { Told of_printed (PrintedAs input.now out.old out.new) result }
 {
     printed(print(input, out))

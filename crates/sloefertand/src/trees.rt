@@ -10,16 +10,14 @@ use text_xml_in::read_tree;
 use text_xml_out::write_tree;
 
 // From a tree's table to its text. First: the bytes.
-#[unsafe(no_mangle)]
-pub extern "C" fn sloefertand_write_tree(t: &[u16], out: &mut [u8]) -> Answer
+pub fn sloefertand_write_tree(t: &[u16], out: &mut [u8]) -> Answer
     ensures { Told of_printed (WriteTree t.now out.old out.new) result }
 {
     printed(write_tree(t, out))
 }
 
 // From a tree's text to its table. First: the words.
-#[unsafe(no_mangle)]
-pub extern "C" fn sloefertand_read_tree(s: &[u8], words: &mut [u16]) -> Answer
+pub fn sloefertand_read_tree(s: &[u8], words: &mut [u16]) -> Answer
     ensures { Told of_parsed (ReadTree s.now words.old words.new) result }
 {
     parsed(read_tree(s, words))

@@ -11,37 +11,28 @@ use verdict::{delete_verdict, insert_verdict};
 use verdict_deep::{deep_delete_verdict, deep_insert_verdict};
 
 // A read and a delete. First: the nodes of the smallest witness, which is written; 0 for no conflict.
-#[unsafe(no_mangle)]
-pub extern "C" fn sloefertand_delete_verdict(r: &[u16], p: &[u16], out: &mut [u16]) -> Answer
+pub fn sloefertand_delete_verdict(r: &[u16], p: &[u16], out: &mut [u16]) -> Answer
     ensures { Told of_verdict (NodeVerdict r.now (delete p.now) out.old out.new) result }
 {
     judged(delete_verdict(r, p, out))
 }
 
 // A read and an insert of the tree x. First: as for a delete.
-#[unsafe(no_mangle)]
-pub extern "C" fn sloefertand_insert_verdict(
-    r: &[u16],
-    p: &[u16],
-    x: &[u16],
-    out: &mut [u16],
-) -> Answer
+pub fn sloefertand_insert_verdict(r: &[u16], p: &[u16], x: &[u16], out: &mut [u16]) -> Answer
     ensures { Told of_verdict (NodeVerdict r.now (insert p.now x.now) out.old out.new) result }
 {
     judged(insert_verdict(r, p, x, out))
 }
 
 // A read and a delete, at and below the read nodes too. First: 1 for yes, 0 for no.
-#[unsafe(no_mangle)]
-pub extern "C" fn sloefertand_deep_delete_verdict(r: &[u16], p: &[u16]) -> Answer
+pub fn sloefertand_deep_delete_verdict(r: &[u16], p: &[u16]) -> Answer
     ensures { Told of_deeply (DeepVerdict r.now (delete p.now)) result }
 {
     deeply(deep_delete_verdict(r, p))
 }
 
 // A read and an insert of the tree x, at and below the read nodes too. First: 1 for yes, 0 for no.
-#[unsafe(no_mangle)]
-pub extern "C" fn sloefertand_deep_insert_verdict(r: &[u16], p: &[u16], x: &[u16]) -> Answer
+pub fn sloefertand_deep_insert_verdict(r: &[u16], p: &[u16], x: &[u16]) -> Answer
     ensures { Told of_deeply (DeepVerdict r.now (insert p.now x.now)) result }
 {
     deeply(deep_insert_verdict(r, p, x))

@@ -2,6 +2,8 @@
 use crate::documents::{identities, marking, marking_count, next, places, room, sound};
 use check::same;
 use sloefertand::operations::sloefertand_v2_delete;
+use std::io;
+use std::io::Stdout;
 use test_parts::digest::bytes;
 use test_parts::numbering::{SINGLE, TREES, front, nodes, pattern, tree};
 use test_parts::show::{eight, spaced, text};
@@ -172,21 +174,21 @@ fn documents(from: usize, to: usize) -> Sums {
 }
 
 // The line of the documents of so many nodes, by the numbers of their trees.
-fn line_of(nodes: usize, from: usize, to: usize) {
+fn line_of(stdout: Stdout, nodes: usize, from: usize, to: usize) -> io::Result<()> {
     let t = documents(from, to);
-    text(b"deletes ");
-    spaced(nodes);
-    spaced(t.pairs);
-    spaced(t.marks);
-    spaced(t.totals);
-    spaced(t.each);
-    eight(t.digest);
-    text(b"\n");
+    text(stdout, b"deletes ")?;
+    spaced(stdout, nodes)?;
+    spaced(stdout, t.pairs)?;
+    spaced(stdout, t.marks)?;
+    spaced(stdout, t.totals)?;
+    spaced(stdout, t.each)?;
+    eight(stdout, t.digest)?;
+    text(stdout, b"\n")
 }
 
-pub(crate) fn table() {
-    line_of(1, 0, 3);
-    line_of(2, 3, 12);
-    line_of(3, 12, 66);
-    line_of(4, 66, TREES);
+pub(crate) fn table(stdout: Stdout) -> io::Result<()> {
+    line_of(stdout, 1, 0, 3)?;
+    line_of(stdout, 2, 3, 12)?;
+    line_of(stdout, 3, 12, 66)?;
+    line_of(stdout, 4, 66, TREES)
 }

@@ -4,6 +4,8 @@ ghost use Rattle.std.specs.Prelude.{◌≤◌};
 use crate::id_orders::answered;
 use c_answer::answer::Answer;
 use sloefertand::operations::sloefertand_v2_insert;
+use std::io;
+use std::io::Stdout;
 use test_parts::digest::rows;
 use test_parts::numbering::{front, words_of};
 use test_parts::show::{eight, spaced, text};
@@ -140,34 +142,34 @@ fn inserts(p: &[u16], x: &[u16]) -> Sums {
 }
 
 // The line of so many copies of so many nodes.
-fn edges(copies: usize, nodes: usize) {
+fn edges(stdout: Stdout, copies: usize, nodes: usize) -> io::Result<()> {
     let p = pattern(copies);
     let x = [0u16, 1, 0, 2, 1, 3];
     let s = inserts(
         front(&p, words_of(steps(copies))),
         front(&x, words_of(nodes)),
     );
-    text(b"id-edges ");
-    spaced(copies);
-    spaced(nodes);
-    spaced(s.calls);
-    spaced(s.given);
-    spaced(s.without_ids);
-    spaced(s.without_room);
-    eight(s.digest);
-    text(b"\n");
+    text(stdout, b"id-edges ")?;
+    spaced(stdout, copies)?;
+    spaced(stdout, nodes)?;
+    spaced(stdout, s.calls)?;
+    spaced(stdout, s.given)?;
+    spaced(stdout, s.without_ids)?;
+    spaced(stdout, s.without_room)?;
+    eight(stdout, s.digest)?;
+    text(stdout, b"\n")
 }
 
 // The lines of so many copies.
-fn lines_of(copies: usize) {
-    edges(copies, 1);
-    edges(copies, 2);
-    edges(copies, 3);
+fn lines_of(stdout: Stdout, copies: usize) -> io::Result<()> {
+    edges(stdout, copies, 1)?;
+    edges(stdout, copies, 2)?;
+    edges(stdout, copies, 3)
 }
 
-pub(crate) fn lines() {
-    lines_of(0);
-    lines_of(1);
-    lines_of(2);
-    lines_of(3);
+pub(crate) fn lines(stdout: Stdout) -> io::Result<()> {
+    lines_of(stdout, 0)?;
+    lines_of(stdout, 1)?;
+    lines_of(stdout, 2)?;
+    lines_of(stdout, 3)
 }

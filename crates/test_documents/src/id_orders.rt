@@ -6,6 +6,8 @@ use sloefertand::checking::sloefertand_v2_check_document;
 use sloefertand::operations::{
     sloefertand_compact, sloefertand_v2_delete, sloefertand_v2_insert, sloefertand_v2_read,
 };
+use std::io;
+use std::io::Stdout;
 use test_parts::digest::{bytes, halves, refusal, rows, taken};
 use test_parts::numbering::front;
 use test_parts::tally::{Tally, line, nothing, one_more};
@@ -309,19 +311,19 @@ fn cases(call: usize, k: usize, count: usize) -> Tally {
 }
 
 // The lines of a call.
-fn lines_of(name: &[u8], call: usize, count: usize) {
-    line(name, 0, cases(call, 0, count));
-    line(name, 1, cases(call, 1, count));
-    line(name, 2, cases(call, 2, count));
-    line(name, 3, cases(call, 3, count));
-    line(name, 4, cases(call, 4, count));
-    line(name, 5, cases(call, 5, count));
+fn lines_of(stdout: Stdout, name: &[u8], call: usize, count: usize) -> io::Result<()> {
+    line(stdout, name, 0, cases(call, 0, count))?;
+    line(stdout, name, 1, cases(call, 1, count))?;
+    line(stdout, name, 2, cases(call, 2, count))?;
+    line(stdout, name, 3, cases(call, 3, count))?;
+    line(stdout, name, 4, cases(call, 4, count))?;
+    line(stdout, name, 5, cases(call, 5, count))
 }
 
-pub(crate) fn lines() {
-    lines_of(b"id-check ", CHECK, 80);
-    lines_of(b"id-read ", READ, 960);
-    lines_of(b"id-delete ", DELETE, 480);
-    lines_of(b"id-insert ", INSERT, 9600);
-    lines_of(b"id-compact ", COMPACT, 80);
+pub(crate) fn lines(stdout: Stdout) -> io::Result<()> {
+    lines_of(stdout, b"id-check ", CHECK, 80)?;
+    lines_of(stdout, b"id-read ", READ, 960)?;
+    lines_of(stdout, b"id-delete ", DELETE, 480)?;
+    lines_of(stdout, b"id-insert ", INSERT, 9600)?;
+    lines_of(stdout, b"id-compact ", COMPACT, 80)
 }

@@ -1,6 +1,8 @@
 // Table 12: identity rows, right and wrong. Here are the checks of small rows and of rows with wide numbers.
 use crate::{id_edges, id_orders};
 use sloefertand::checking::sloefertand_v2_check_document;
+use std::io;
+use std::io::Stdout;
 use test_parts::rows::{behind, first};
 use test_parts::show::{spaced, text};
 use test_parts::tally::{Tally, line, nothing, one_more, told};
@@ -86,47 +88,48 @@ fn rows_of(n: usize, count: usize, kinds: usize, used: usize, next: u32, t: Tall
 }
 
 // The line of a used count and a next identity, for rows of at most 4 identities.
-fn small_line(used: usize, next: u32) {
+fn small_line(stdout: Stdout, used: usize, next: u32) -> io::Result<()> {
     let none = rows_of(0, 1, SMALL, used, next, nothing());
     let one = rows_of(1, 5, SMALL, used, next, none);
     let two = rows_of(2, 25, SMALL, used, next, one);
     let three = rows_of(3, 125, SMALL, used, next, two);
     let four = rows_of(4, 625, SMALL, used, next, three);
-    text(b"id-rows ");
-    spaced(used);
-    line(b"", number(next), four);
+    text(stdout, b"id-rows ")?;
+    spaced(stdout, used)?;
+    line(stdout, b"", number(next), four)
 }
 
 // The lines of a used count.
-fn small_lines(used: usize) {
-    small_line(used, 0);
-    small_line(used, 1);
-    small_line(used, 2);
-    small_line(used, 3);
-    small_line(used, 4);
-    small_line(used, 5);
+fn small_lines(stdout: Stdout, used: usize) -> io::Result<()> {
+    small_line(stdout, used, 0)?;
+    small_line(stdout, used, 1)?;
+    small_line(stdout, used, 2)?;
+    small_line(stdout, used, 3)?;
+    small_line(stdout, used, 4)?;
+    small_line(stdout, used, 5)
 }
 
 // The line of the next identity i, for rows of two wide numbers.
-fn wide_line(i: usize) {
+fn wide_line(stdout: Stdout, i: usize) -> io::Result<()> {
     line(
+        stdout,
         b"id-wide ",
         number(wide(i)),
         rows_of(2, 49, WIDE, 2, wide(i), nothing()),
-    );
+    )
 }
 
-pub(crate) fn table() {
-    small_lines(1);
-    small_lines(2);
-    small_lines(3);
-    wide_line(0);
-    wide_line(1);
-    wide_line(2);
-    wide_line(3);
-    wide_line(4);
-    wide_line(5);
-    wide_line(6);
-    id_orders::lines();
-    id_edges::lines();
+pub(crate) fn table(stdout: Stdout) -> io::Result<()> {
+    small_lines(stdout, 1)?;
+    small_lines(stdout, 2)?;
+    small_lines(stdout, 3)?;
+    wide_line(stdout, 0)?;
+    wide_line(stdout, 1)?;
+    wide_line(stdout, 2)?;
+    wide_line(stdout, 3)?;
+    wide_line(stdout, 4)?;
+    wide_line(stdout, 5)?;
+    wide_line(stdout, 6)?;
+    id_orders::lines(stdout)?;
+    id_edges::lines(stdout)
 }

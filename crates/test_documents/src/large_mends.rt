@@ -3,6 +3,8 @@ ghost use Rattle.std.specs.Prelude.{◌≤◌};
 
 use crate::id_orders::answered;
 use sloefertand::operations::sloefertand_mend;
+use std::io;
+use std::io::Stdout;
 use test_parts::digest::{bytes, words};
 use test_parts::numbering::{front, pair};
 use test_parts::put::put;
@@ -115,49 +117,47 @@ fn mendings(used: usize, form: usize, k: usize) -> Sums {
 }
 
 // The name of a form.
-fn form_name(form: usize) {
+fn form_name(stdout: Stdout, form: usize) -> io::Result<()> {
     if form == CHAIN {
-        text(b"chain ");
-        return;
+        return text(stdout, b"chain ");
     }
     if form == STAR {
-        text(b"star ");
-        return;
+        return text(stdout, b"star ");
     }
-    text(b"halves ");
+    text(stdout, b"halves ")
 }
 
 // The line of a form and marking k, by the marking's name.
-fn line(used: usize, form: usize, k: usize, name: &[u8]) {
+fn line(stdout: Stdout, used: usize, form: usize, k: usize, name: &[u8]) -> io::Result<()> {
     let s = mendings(used, form, k);
-    text(b"mend-large ");
-    spaced(used);
-    form_name(form);
-    text(name);
-    spaced(s.calls);
-    spaced(s.length);
-    eight(s.digest);
-    text(b"\n");
+    text(stdout, b"mend-large ")?;
+    spaced(stdout, used)?;
+    form_name(stdout, form)?;
+    text(stdout, name)?;
+    spaced(stdout, s.calls)?;
+    spaced(stdout, s.length)?;
+    eight(stdout, s.digest)?;
+    text(stdout, b"\n")
 }
 
 // The lines of a form.
-fn lines_of(used: usize, form: usize) {
-    line(used, form, 0, b"all ");
-    line(used, form, 1, b"top ");
-    line(used, form, 2, b"root ");
-    line(used, form, 3, b"thirds ");
-    line(used, form, 4, b"every ");
-    line(used, form, 5, b"fifths ");
+fn lines_of(stdout: Stdout, used: usize, form: usize) -> io::Result<()> {
+    line(stdout, used, form, 0, b"all ")?;
+    line(stdout, used, form, 1, b"top ")?;
+    line(stdout, used, form, 2, b"root ")?;
+    line(stdout, used, form, 3, b"thirds ")?;
+    line(stdout, used, form, 4, b"every ")?;
+    line(stdout, used, form, 5, b"fifths ")
 }
 
 // The lines of a size.
-fn forms(used: usize) {
-    lines_of(used, CHAIN);
-    lines_of(used, STAR);
-    lines_of(used, HALVES);
+fn forms(stdout: Stdout, used: usize) -> io::Result<()> {
+    lines_of(stdout, used, CHAIN)?;
+    lines_of(stdout, used, STAR)?;
+    lines_of(stdout, used, HALVES)
 }
 
-pub(crate) fn lines() {
-    forms(4096);
-    forms(1000);
+pub(crate) fn lines(stdout: Stdout) -> io::Result<()> {
+    forms(stdout, 4096)?;
+    forms(stdout, 1000)
 }

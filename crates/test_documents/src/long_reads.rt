@@ -2,6 +2,8 @@
 use crate::large_documents::{NODES, WORDS, document, identities, next};
 use crate::operations::kept;
 use sloefertand::operations::{sloefertand_compact, sloefertand_v2_insert, sloefertand_v2_read};
+use std::io;
+use std::io::Stdout;
 use test_parts::chosen::sum;
 use test_parts::digest::{bytes, refusal, rows};
 use test_parts::numbering::{front, words_of};
@@ -132,44 +134,43 @@ fn reads(again: bool, n: usize) -> Sums {
 }
 
 // How their line begins.
-fn name(again: bool) {
+fn name(stdout: Stdout, again: bool) -> io::Result<()> {
     if again {
-        text(b"kept ");
-        return;
+        return text(stdout, b"kept ");
     }
-    text(b"reads ");
+    text(stdout, b"reads ")
 }
 
 // Their line.
-fn line(again: bool, n: usize) {
+fn line(stdout: Stdout, again: bool, n: usize) -> io::Result<()> {
     let t = reads(again, n);
-    name(again);
-    spaced(n);
-    spaced(t.reads);
-    spaced(t.selected);
-    eight(t.digest);
-    text(b"\n");
+    name(stdout, again)?;
+    spaced(stdout, n)?;
+    spaced(stdout, t.reads)?;
+    spaced(stdout, t.selected)?;
+    eight(stdout, t.digest)?;
+    text(stdout, b"\n")
 }
 
 // The lines of all lengths.
-fn lines(again: bool) {
-    line(again, 1);
-    line(again, 2);
-    line(again, 31);
-    line(again, 32);
-    line(again, 33);
-    line(again, 62);
-    line(again, 63);
-    line(again, 64);
-    line(again, 65);
-    line(again, 127);
-    line(again, 128);
-    line(again, 129);
-    line(again, 191);
-    line(again, 192);
-    line(again, 193);
-    line(again, 254);
-    line(again, 255);
+fn lines(stdout: Stdout, again: bool) -> io::Result<()> {
+    line(stdout, again, 1)?;
+    line(stdout, again, 2)?;
+    line(stdout, again, 31)?;
+    line(stdout, again, 32)?;
+    line(stdout, again, 33)?;
+    line(stdout, again, 62)?;
+    line(stdout, again, 63)?;
+    line(stdout, again, 64)?;
+    line(stdout, again, 65)?;
+    line(stdout, again, 127)?;
+    line(stdout, again, 128)?;
+    line(stdout, again, 129)?;
+    line(stdout, again, 191)?;
+    line(stdout, again, 192)?;
+    line(stdout, again, 193)?;
+    line(stdout, again, 254)?;
+    line(stdout, again, 255)
 }
 
 // What was there before a refusal, or is there after an answer.
@@ -181,73 +182,91 @@ fn there(refused: usize, before: usize, after: usize) -> usize {
 }
 
 // An insert at the root: its refusal, 0 for none, the used count, the next identity and the digest of all rows after it.
-fn show_grown(table: &mut [u16], marks: &mut [u8], used: usize, ids: &mut [u32], next: u32) {
+fn show_grown(
+    stdout: Stdout,
+    table: &mut [u16],
+    marks: &mut [u8],
+    used: usize,
+    ids: &mut [u32],
+    next: u32,
+) -> io::Result<()> {
     let p = [0u16, 0];
     let x = [0u16, 1, 0, 256, 1, 257];
     let a = sloefertand_v2_insert(&p, &x, table, marks, used, ids, next);
-    spaced(a.refusal);
-    spaced(there(a.refusal, used, a.second));
-    spaced(there(a.refusal, number(next), a.third));
-    eight(rows(0, table, marks, ids));
+    spaced(stdout, a.refusal)?;
+    spaced(stdout, there(a.refusal, used, a.second))?;
+    spaced(stdout, there(a.refusal, number(next), a.third))?;
+    eight(stdout, rows(0, table, marks, ids))
 }
 
 // The compaction's used count, how many nodes it dropped, and the digest of all rows after it.
-fn show_compacted(d: usize, table: &mut [u16], marks: &mut [u8], ids: &mut [u32]) {
+fn show_compacted(
+    stdout: Stdout,
+    d: usize,
+    table: &mut [u16],
+    marks: &mut [u8],
+    ids: &mut [u32],
+) -> io::Result<()> {
     let a = sloefertand_compact(table, marks, NODES, ids, next(d));
-    text(b"compaction ");
-    spaced(d);
-    spaced(a.first);
-    spaced(a.second);
-    eight(rows(0, table, marks, ids));
-    text(b"\n");
+    text(stdout, b"compaction ")?;
+    spaced(stdout, d)?;
+    spaced(stdout, a.first)?;
+    spaced(stdout, a.second)?;
+    eight(stdout, rows(0, table, marks, ids))?;
+    text(stdout, b"\n")
 }
 
 // The insert after the compaction.
-fn show_grown_after(d: usize, table: &mut [u16], marks: &mut [u8], ids: &mut [u32]) {
+fn show_grown_after(
+    stdout: Stdout,
+    d: usize,
+    table: &mut [u16],
+    marks: &mut [u8],
+    ids: &mut [u32],
+) -> io::Result<()> {
     let a = sloefertand_compact(table, marks, NODES, ids, next(d));
-    show_grown(table, marks, a.first, ids, next(d));
+    show_grown(stdout, table, marks, a.first, ids, next(d))
 }
 
 // One of the three on document d.
-fn shown(what: usize, d: usize) {
+fn shown(stdout: Stdout, what: usize, d: usize) -> io::Result<()> {
     let mut table = [0u16; WORDS];
     let mut marks = [0u8; NODES];
     let mut ids = [0u32; NODES];
     document(d, &mut table, &mut marks);
     identities(d, &mut ids);
     if what == 0 {
-        show_compacted(d, &mut table, &mut marks, &mut ids);
-        return;
+        return show_compacted(stdout, d, &mut table, &mut marks, &mut ids);
     }
     if what == 1 {
-        show_grown(&mut table, &mut marks, NODES, &mut ids, next(d));
-        return;
+        return show_grown(stdout, &mut table, &mut marks, NODES, &mut ids, next(d));
     }
-    show_grown_after(d, &mut table, &mut marks, &mut ids);
+    show_grown_after(stdout, d, &mut table, &mut marks, &mut ids)
 }
 
 // The lines of document d.
-fn compaction(d: usize) {
-    shown(0, d);
-    text(b"grown ");
-    spaced(d);
-    shown(1, d);
-    text(b" ");
-    shown(2, d);
-    text(b"\n");
+fn compaction(stdout: Stdout, d: usize) -> io::Result<()> {
+    shown(stdout, 0, d)?;
+    text(stdout, b"grown ")?;
+    spaced(stdout, d)?;
+    shown(stdout, 1, d)?;
+    text(stdout, b" ")?;
+    shown(stdout, 2, d)?;
+    text(stdout, b"\n")
 }
 
 // Every compaction.
-fn compactions() {
+fn compactions(stdout: Stdout) -> io::Result<()> {
     let mut d = 0;
     while d < COMPACTED {
-        compaction(d);
+        compaction(stdout, d)?;
         d += 1;
     }
+    Ok(())
 }
 
-pub(crate) fn table() {
-    lines(false);
-    lines(true);
-    compactions();
+pub(crate) fn table(stdout: Stdout) -> io::Result<()> {
+    lines(stdout, false)?;
+    lines(stdout, true)?;
+    compactions(stdout)
 }

@@ -14,10 +14,12 @@ mod mends;
 mod operations;
 mod small_documents;
 
-fn main() {
-    small_documents::table();
-    either_order::table();
-    long_reads::table();
-    identities::table();
-    mends::table();
+use std::io;
+
+fn main(rt: HostRuntime) -> io::Result<()> {
+    small_documents::table(rt.stdout())?;
+    either_order::table(rt.stdout())?;
+    long_reads::table(rt.stdout())?;
+    identities::table(rt.stdout())?;
+    mends::table(rt.stdout())
 }

@@ -4,6 +4,8 @@ use crate::id_orders::{
     damaged_words, identities, ids_lent, marking, marks_lent, used, words_lent,
 };
 use crate::mends::listed;
+use std::io;
+use std::io::Stdout;
 use test_parts::numbering::front;
 use test_parts::sums::{Sums, no_calls};
 use test_parts::tally::{Tally, line};
@@ -63,9 +65,10 @@ fn cases(k: usize) -> Sums {
 }
 
 // The line of damage k.
-fn line_of(k: usize) {
+fn line_of(stdout: Stdout, k: usize) -> io::Result<()> {
     let s = cases(k);
     line(
+        stdout,
         b"mend-order ",
         k,
         Tally {
@@ -73,14 +76,14 @@ fn line_of(k: usize) {
             back: less(s.calls, s.written),
             digest: s.digest,
         },
-    );
+    )
 }
 
-pub(crate) fn lines() {
-    line_of(0);
-    line_of(1);
-    line_of(2);
-    line_of(3);
-    line_of(4);
-    line_of(5);
+pub(crate) fn lines(stdout: Stdout) -> io::Result<()> {
+    line_of(stdout, 0)?;
+    line_of(stdout, 1)?;
+    line_of(stdout, 2)?;
+    line_of(stdout, 3)?;
+    line_of(stdout, 4)?;
+    line_of(stdout, 5)
 }

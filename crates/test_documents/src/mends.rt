@@ -6,6 +6,8 @@ use crate::id_orders::answered;
 use crate::{large_mends, mend_orders};
 use sloefertand::checking::sloefertand_v2_check_document;
 use sloefertand::operations::sloefertand_mend;
+use std::io;
+use std::io::Stdout;
 use test_parts::digest::{rows, words};
 use test_parts::numbering::{front, front_bytes};
 use test_parts::rows::behind;
@@ -221,9 +223,10 @@ fn documents(n: usize, count: usize, room: usize) -> Sums {
 }
 
 // The line of n nodes, with a list of two words more than all used nodes need. No mending is refused, so how many documents are sound stands in its place.
-fn small_line(n: usize, count: usize) {
+fn small_line(stdout: Stdout, n: usize, count: usize) -> io::Result<()> {
     let s = documents(n, count, n % NODES * 3 + 2);
     show_sums(
+        stdout,
         b"mends ",
         n,
         Sums {
@@ -233,13 +236,14 @@ fn small_line(n: usize, count: usize) {
             last: s.last,
             digest: s.digest,
         },
-    );
+    )
 }
 
 // The line of a list's length.
-fn room_line(room: usize) {
+fn room_line(stdout: Stdout, room: usize) -> io::Result<()> {
     let s = documents(4, LARGEST, room);
     line(
+        stdout,
         b"mend-room ",
         room,
         Tally {
@@ -247,24 +251,25 @@ fn room_line(room: usize) {
             back: s.written,
             digest: s.digest,
         },
-    );
+    )
 }
 
 // The lines of all lengths.
-fn room_lines() {
+fn room_lines(stdout: Stdout) -> io::Result<()> {
     let mut room = 0;
     while room < ROOMS {
-        room_line(room);
+        room_line(stdout, room)?;
         room += 1;
     }
+    Ok(())
 }
 
-pub(crate) fn table() {
-    small_line(1, 4);
-    small_line(2, 16);
-    small_line(3, 128);
-    small_line(4, LARGEST);
-    room_lines();
-    mend_orders::lines();
-    large_mends::lines();
+pub(crate) fn table(stdout: Stdout) -> io::Result<()> {
+    small_line(stdout, 1, 4)?;
+    small_line(stdout, 2, 16)?;
+    small_line(stdout, 3, 128)?;
+    small_line(stdout, 4, LARGEST)?;
+    room_lines(stdout)?;
+    mend_orders::lines(stdout)?;
+    large_mends::lines(stdout)
 }

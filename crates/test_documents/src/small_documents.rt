@@ -1,6 +1,8 @@
 // Table 2: every read, delete, insert and compaction on every small document.
 use crate::documents::{ROOM, identities, marking, marking_count, next, places, room, sound};
 use crate::operations::{compacted, deleted, inserted, kept, later, read};
+use std::io;
+use std::io::Stdout;
 use test_parts::numbering::{INSERTED, PATTERNS, TREES, front, front_bytes, nodes, pattern, tree};
 use test_parts::show::{eight, text};
 use test_parts::wide::front_ids;
@@ -191,37 +193,39 @@ fn inserts(t: usize, m: usize) -> u64 {
 }
 
 // A document's line, if its marking is sound.
-fn line(t: usize, m: usize) {
+fn line(stdout: Stdout, t: usize, m: usize) -> io::Result<()> {
     if !sound(t, m) {
-        return;
+        return Ok(());
     }
-    eight(uses(0, t, m));
-    text(b" ");
-    eight(uses(1, t, m));
-    text(b" ");
-    eight(inserts(t, m));
-    text(b" ");
-    eight(compaction(t, m));
-    text(b" ");
-    eight(uses(3, t, m));
-    text(b" ");
-    eight(uses(4, t, m));
-    text(b"\n");
+    eight(stdout, uses(0, t, m))?;
+    text(stdout, b" ")?;
+    eight(stdout, uses(1, t, m))?;
+    text(stdout, b" ")?;
+    eight(stdout, inserts(t, m))?;
+    text(stdout, b" ")?;
+    eight(stdout, compaction(t, m))?;
+    text(stdout, b" ")?;
+    eight(stdout, uses(3, t, m))?;
+    text(stdout, b" ")?;
+    eight(stdout, uses(4, t, m))?;
+    text(stdout, b"\n")
 }
 
 // Every marking.
-fn markings(t: usize, count: usize) {
+fn markings(stdout: Stdout, t: usize, count: usize) -> io::Result<()> {
     let mut m = 0;
     while m < count {
-        line(t, m);
+        line(stdout, t, m)?;
         m += 1;
     }
+    Ok(())
 }
 
-pub(crate) fn table() {
+pub(crate) fn table(stdout: Stdout) -> io::Result<()> {
     let mut t = 0;
     while t < TREES {
-        markings(t, marking_count(t));
+        markings(stdout, t, marking_count(t))?;
         t += 1;
     }
+    Ok(())
 }

@@ -1,18 +1,19 @@
 // Text to standard output.
-use libc::STDOUT_FILENO;
+use std::io;
+use std::io::Stdout;
 
-pub fn text(s: &[u8]) {
-    io::write_all(STDOUT_FILENO, s);
+pub fn text(stdout: Stdout, s: &[u8]) -> io::Result<()> {
+    stdout.write_all(s)
 }
 
-pub fn number(n: usize) {
-    io::print_decimal(STDOUT_FILENO, n as u64);
+pub fn number(stdout: Stdout, n: usize) -> io::Result<()> {
+    stdout.print(n)
 }
 
 // A number and a space.
-pub fn spaced(n: usize) {
-    number(n);
-    text(b" ");
+pub fn spaced(stdout: Stdout, n: usize) -> io::Result<()> {
+    number(stdout, n)?;
+    text(stdout, b" ")
 }
 
 // The byte of a digit below 16.
@@ -24,15 +25,18 @@ pub fn digit(n: u64) -> u8 {
 }
 
 // Eight digits.
-pub fn eight(n: u64) {
-    text(&[
-        digit(n / 268435456),
-        digit(n / 16777216),
-        digit(n / 1048576),
-        digit(n / 65536),
-        digit(n / 4096),
-        digit(n / 256),
-        digit(n / 16),
-        digit(n),
-    ]);
+pub fn eight(stdout: Stdout, n: u64) -> io::Result<()> {
+    text(
+        stdout,
+        &[
+            digit(n / 268435456),
+            digit(n / 16777216),
+            digit(n / 1048576),
+            digit(n / 65536),
+            digit(n / 4096),
+            digit(n / 256),
+            digit(n / 16),
+            digit(n),
+        ],
+    )
 }

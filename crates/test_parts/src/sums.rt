@@ -2,8 +2,10 @@
 use crate::show::{eight, spaced, text};
 use crate::tally::one_more;
 use c_answer::answer::Answer;
+use std::io;
+use std::io::Stdout;
 
-#[derive(Drop)]
+#[derive(Clone, Copy)]
 pub struct Sums {
     pub calls: usize,
     pub written: usize,
@@ -35,12 +37,12 @@ pub fn counted(s: Sums, a: Answer, digest: u64) -> Sums {
 }
 
 // The line, with all but the last.
-pub fn show_sums(name: &[u8], n: usize, s: Sums) {
-    text(name);
-    spaced(n);
-    spaced(s.calls);
-    spaced(s.written);
-    spaced(s.length);
-    eight(s.digest);
-    text(b"\n");
+pub fn show_sums(stdout: Stdout, name: &[u8], n: usize, s: Sums) -> io::Result<()> {
+    text(stdout, name)?;
+    spaced(stdout, n)?;
+    spaced(stdout, s.calls)?;
+    spaced(stdout, s.written)?;
+    spaced(stdout, s.length)?;
+    eight(stdout, s.digest)?;
+    text(stdout, b"\n")
 }

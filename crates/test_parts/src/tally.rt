@@ -2,6 +2,8 @@
 use crate::digest::{refusal, taken};
 use crate::show::{eight, spaced, text};
 use c_answer::answer::Answer;
+use std::io;
+use std::io::Stdout;
 
 #[derive(Drop)]
 pub struct Tally {
@@ -36,11 +38,11 @@ pub fn told(d: u64, a: Answer) -> u64 {
 }
 
 // A line with all three.
-pub fn line(name: &[u8], length: usize, t: Tally) {
-    text(name);
-    spaced(length);
-    spaced(t.answered);
-    spaced(t.back);
-    eight(t.digest);
-    text(b"\n");
+pub fn line(stdout: Stdout, name: &[u8], length: usize, t: Tally) -> io::Result<()> {
+    text(stdout, name)?;
+    spaced(stdout, length)?;
+    spaced(stdout, t.answered)?;
+    spaced(stdout, t.back)?;
+    eight(stdout, t.digest)?;
+    text(stdout, b"\n")
 }

@@ -2,6 +2,8 @@
 use crate::two_damages;
 use c_answer::answer::Answer;
 use sloefertand::batches::sloefertand_plan;
+use std::io;
+use std::io::Stdout;
 use test_parts::answers::{code, earlier_than, show_answer};
 use test_parts::numbering::front;
 use test_parts::show::{number, spaced, text};
@@ -30,12 +32,19 @@ fn answer(b: &[u16], frames: usize) -> usize {
 }
 
 // Values that have one answer.
-fn show_run(name: usize, w: usize, from: usize, to: usize, a: usize) {
-    spaced(name);
-    spaced(w);
-    spaced(from);
-    spaced(to);
-    show_answer(a);
+fn show_run(
+    stdout: Stdout,
+    name: usize,
+    w: usize,
+    from: usize,
+    to: usize,
+    a: usize,
+) -> io::Result<()> {
+    spaced(stdout, name)?;
+    spaced(stdout, w)?;
+    spaced(stdout, from)?;
+    spaced(stdout, to)?;
+    show_answer(stdout, a)
 }
 
 // The batch, with room behind it.
@@ -67,7 +76,7 @@ pub(crate) fn word_of(b: &[u16], i: usize) -> u16 {
 }
 
 // Word w replaced by every value.
-fn values(name: usize, b: &[u16], w: usize, frames: usize) {
+fn values(stdout: Stdout, name: usize, b: &[u16], w: usize, frames: usize) -> io::Result<()> {
     let n = b.len();
     let mut words = copied(b);
     let mut from = 0;
@@ -76,13 +85,13 @@ fn values(name: usize, b: &[u16], w: usize, frames: usize) {
     while value < 65536 {
         let a = replaced(&mut words, w, (value % 65536) as u16, n, frames);
         if a != last {
-            show_run(name, w, from, earlier_than(value, 0), last);
+            show_run(stdout, name, w, from, earlier_than(value, 0), last)?;
             from = value;
             last = a;
         }
         value += 1;
     }
-    show_run(name, w, from, 65535, last);
+    show_run(stdout, name, w, from, 65535, last)
 }
 
 // The batch without word w.
@@ -116,42 +125,49 @@ fn doubled(b: &[u16], w: usize) -> [u16; ROOM] {
 }
 
 // Word w taken out, and word w doubled.
-fn lost_and_twice(name: usize, b: &[u16], w: usize, frames: usize) {
+fn lost_and_twice(
+    stdout: Stdout,
+    name: usize,
+    b: &[u16],
+    w: usize,
+    frames: usize,
+) -> io::Result<()> {
     let n = b.len();
     if n == 0 {
-        return;
+        return Ok(());
     }
     let less = without(b, w);
-    spaced(name);
-    spaced(w);
-    text(b"lost ");
-    show_answer(answer(front(&less, n - 1), frames));
+    spaced(stdout, name)?;
+    spaced(stdout, w)?;
+    text(stdout, b"lost ")?;
+    show_answer(stdout, answer(front(&less, n - 1), frames))?;
     let more = doubled(b, w);
-    spaced(name);
-    spaced(w);
-    text(b"twice ");
-    show_answer(answer(front(&more, n % 16384 + 1), frames));
+    spaced(stdout, name)?;
+    spaced(stdout, w)?;
+    text(stdout, b"twice ")?;
+    show_answer(stdout, answer(front(&more, n % 16384 + 1), frames))
 }
 
 // Every word of a batch.
-fn damaged(name: usize, b: &[u16], frames: usize) {
+fn damaged(stdout: Stdout, name: usize, b: &[u16], frames: usize) -> io::Result<()> {
     let mut w = 0;
     while w < b.len() {
-        values(name, b, w, frames);
-        lost_and_twice(name, b, w, frames);
+        values(stdout, name, b, w, frames)?;
+        lost_and_twice(stdout, name, b, w, frames)?;
         w += 1;
     }
+    Ok(())
 }
 
 // A batch with one word damaged, then with two.
-fn both(name: usize, b: &[u16], frames: usize) {
-    damaged(name, b, frames);
-    two_damages::lines(name, b);
+fn both(stdout: Stdout, name: usize, b: &[u16], frames: usize) -> io::Result<()> {
+    damaged(stdout, name, b, frames)?;
+    two_damages::lines(stdout, name, b)
 }
 
-pub(crate) fn table() {
-    both(1, &FIRST, 5);
-    both(2, &SECOND, 2);
-    both(3, &THIRD, 1);
-    both(4, &FOURTH, 3);
+pub(crate) fn table(stdout: Stdout) -> io::Result<()> {
+    both(stdout, 1, &FIRST, 5)?;
+    both(stdout, 2, &SECOND, 2)?;
+    both(stdout, 3, &THIRD, 1)?;
+    both(stdout, 4, &FOURTH, 3)
 }

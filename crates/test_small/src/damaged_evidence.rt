@@ -1,6 +1,8 @@
 // Table 10, refusals: damaged tables, one at a time and all at once.
 use c_answer::answer::Answer;
 use sloefertand::evidence::{sloefertand_delete_evidence, sloefertand_insert_evidence};
+use std::io;
+use std::io::Stdout;
 use tables::words::word;
 use test_parts::answers::{code, show_answer};
 use test_parts::numbering::{front, pair};
@@ -126,28 +128,30 @@ fn alone(table: usize, d: usize) -> Damages {
 }
 
 // The line of one damage alone.
-fn show_alone(name: &[u8], table: usize, d: usize, a: Answer) {
-    text(name);
-    spaced(table);
-    spaced(d);
-    show_answer(code(a));
+fn show_alone(stdout: Stdout, name: &[u8], table: usize, d: usize, a: Answer) -> io::Result<()> {
+    text(stdout, name)?;
+    spaced(stdout, table)?;
+    spaced(stdout, d)?;
+    show_answer(stdout, code(a))
 }
 
 // Every damage of a table alone.
-fn deletes_alone(table: usize, count: usize) {
+fn deletes_alone(stdout: Stdout, table: usize, count: usize) -> io::Result<()> {
     let mut d = 0;
     while d < count {
-        show_alone(b"delete ", table, d, deleted(alone(table, d)));
+        show_alone(stdout, b"delete ", table, d, deleted(alone(table, d)))?;
         d += 1;
     }
+    Ok(())
 }
 
-fn inserts_alone(table: usize, count: usize) {
+fn inserts_alone(stdout: Stdout, table: usize, count: usize) -> io::Result<()> {
     let mut d = 0;
     while d < count {
-        show_alone(b"insert ", table, d, inserted(alone(table, d)));
+        show_alone(stdout, b"insert ", table, d, inserted(alone(table, d)))?;
         d += 1;
     }
+    Ok(())
 }
 
 // Before the first call.
@@ -210,39 +214,41 @@ fn inserts(r: usize) -> Sums {
     s
 }
 
-fn line(name: &[u8], r: usize, s: Sums) {
-    text(name);
-    spaced(r);
-    spaced(s.calls);
-    spaced(s.refused);
-    eight(s.digest);
-    text(b"\n");
+fn line(stdout: Stdout, name: &[u8], r: usize, s: Sums) -> io::Result<()> {
+    text(stdout, name)?;
+    spaced(stdout, r)?;
+    spaced(stdout, s.calls)?;
+    spaced(stdout, s.refused)?;
+    eight(stdout, s.digest)?;
+    text(stdout, b"\n")
 }
 
-fn delete_lines() {
+fn delete_lines(stdout: Stdout) -> io::Result<()> {
     let mut r = 0;
     while r < PATTERNS {
-        line(b"damaged-delete ", r, deletes(r));
+        line(stdout, b"damaged-delete ", r, deletes(r))?;
         r += 1;
     }
+    Ok(())
 }
 
-fn insert_lines() {
+fn insert_lines(stdout: Stdout) -> io::Result<()> {
     let mut r = 0;
     while r < PATTERNS {
-        line(b"damaged-insert ", r, inserts(r));
+        line(stdout, b"damaged-insert ", r, inserts(r))?;
         r += 1;
     }
+    Ok(())
 }
 
-pub(crate) fn lines() {
-    deletes_alone(1, PATTERNS);
-    deletes_alone(2, PATTERNS);
-    deletes_alone(5, TREES);
-    inserts_alone(1, PATTERNS);
-    inserts_alone(2, PATTERNS);
-    inserts_alone(3, TREES);
-    inserts_alone(5, TREES);
-    delete_lines();
-    insert_lines();
+pub(crate) fn lines(stdout: Stdout) -> io::Result<()> {
+    deletes_alone(stdout, 1, PATTERNS)?;
+    deletes_alone(stdout, 2, PATTERNS)?;
+    deletes_alone(stdout, 5, TREES)?;
+    inserts_alone(stdout, 1, PATTERNS)?;
+    inserts_alone(stdout, 2, PATTERNS)?;
+    inserts_alone(stdout, 3, TREES)?;
+    inserts_alone(stdout, 5, TREES)?;
+    delete_lines(stdout)?;
+    insert_lines(stdout)
 }

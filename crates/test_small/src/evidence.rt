@@ -2,6 +2,8 @@
 use crate::{damaged_evidence, large_evidence};
 use c_answer::answer::Answer;
 use sloefertand::evidence::{sloefertand_delete_evidence, sloefertand_insert_evidence};
+use std::io;
+use std::io::Stdout;
 use tables::words::word;
 use test_parts::numbering::{INSERTED, PATTERNS, SINGLE, TREES, front, pattern, tree};
 use test_parts::show::{digit, eight, spaced, text};
@@ -71,58 +73,61 @@ fn signs(p: &[u16], x: &[u16], t: &[u16]) -> [u8; READS] {
     row
 }
 
-fn show_signs(p: &[u16], x: &[u16], t: &[u16]) {
+fn show_signs(stdout: Stdout, p: &[u16], x: &[u16], t: &[u16]) -> io::Result<()> {
     let row = signs(p, x, t);
-    text(&row);
+    text(stdout, &row)
 }
 
 // Delete k.
-fn delete_of(k: usize, t: &[u16]) {
+fn delete_of(stdout: Stdout, k: usize, t: &[u16]) -> io::Result<()> {
     let mut words = [0u16; 6];
     let n = pattern(word(&DELETE_PATTERNS, k), &mut words);
-    show_signs(front(&words, n), &[], t);
+    show_signs(stdout, front(&words, n), &[], t)
 }
 
-fn deletes(t: &[u16]) {
+fn deletes(stdout: Stdout, t: &[u16]) -> io::Result<()> {
     let mut k = 0;
     while k < DELETES {
-        delete_of(k, t);
+        delete_of(stdout, k, t)?;
         k += 1;
     }
+    Ok(())
 }
 
 // Insert k.
-fn insert_of(k: usize, t: &[u16]) {
+fn insert_of(stdout: Stdout, k: usize, t: &[u16]) -> io::Result<()> {
     let mut words = [0u16; 6];
     let mut copied = [0u16; 6];
     let n = pattern(word(&INSERT_PATTERNS, k), &mut words);
     let m = tree(word(&INSERT_TREES, k), &mut copied);
-    show_signs(front(&words, n), front(&copied, m), t);
+    show_signs(stdout, front(&words, n), front(&copied, m), t)
 }
 
-fn inserts(t: &[u16]) {
+fn inserts(stdout: Stdout, t: &[u16]) -> io::Result<()> {
     let mut k = 0;
     while k < INSERTS {
-        insert_of(k, t);
+        insert_of(stdout, k, t)?;
         k += 1;
     }
+    Ok(())
 }
 
 // The line of tree k.
-fn tree_line(k: usize) {
+fn tree_line(stdout: Stdout, k: usize) -> io::Result<()> {
     let mut words = [0u16; 8];
     let n = tree(k, &mut words);
-    deletes(front(&words, n));
-    inserts(front(&words, n));
-    text(b"\n");
+    deletes(stdout, front(&words, n))?;
+    inserts(stdout, front(&words, n))?;
+    text(stdout, b"\n")
 }
 
-fn tree_lines() {
+fn tree_lines(stdout: Stdout) -> io::Result<()> {
     let mut k = 0;
     while k < TREES {
-        tree_line(k);
+        tree_line(stdout, k)?;
         k += 1;
     }
+    Ok(())
 }
 
 // One answer more, and where the drawing is then.
@@ -185,29 +190,30 @@ fn drawn(r: &[u16], state: usize) -> Sums {
 }
 
 // The line of read k.
-fn drawn_line(k: usize) {
+fn drawn_line(stdout: Stdout, k: usize) -> io::Result<()> {
     let mut words = [0u16; 6];
     let n = pattern(k, &mut words);
     let s = drawn(front(&words, n), k);
-    text(b"drawn ");
-    spaced(k);
-    spaced(s.calls);
-    spaced(s.yes);
-    eight(s.digest);
-    text(b"\n");
+    text(stdout, b"drawn ")?;
+    spaced(stdout, k)?;
+    spaced(stdout, s.calls)?;
+    spaced(stdout, s.yes)?;
+    eight(stdout, s.digest)?;
+    text(stdout, b"\n")
 }
 
-fn drawn_lines() {
+fn drawn_lines(stdout: Stdout) -> io::Result<()> {
     let mut k = 0;
     while k < PATTERNS {
-        drawn_line(k);
+        drawn_line(stdout, k)?;
         k += 1;
     }
+    Ok(())
 }
 
-pub(crate) fn table() {
-    tree_lines();
-    drawn_lines();
-    large_evidence::lines();
-    damaged_evidence::lines();
+pub(crate) fn table(stdout: Stdout) -> io::Result<()> {
+    tree_lines(stdout)?;
+    drawn_lines(stdout)?;
+    large_evidence::lines(stdout)?;
+    damaged_evidence::lines(stdout)
 }

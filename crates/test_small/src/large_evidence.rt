@@ -1,6 +1,8 @@
 // Table 10, larger trees: with one marked node, and drawn, with patterns along ways up.
 use c_answer::answer::Answer;
 use sloefertand::evidence::{sloefertand_delete_evidence, sloefertand_insert_evidence};
+use std::io;
+use std::io::Stdout;
 use tables::words::{first_word, second_word};
 use test_parts::numbering::{front, pair, words_of};
 use test_parts::rows::first;
@@ -25,7 +27,7 @@ const MARK: usize = 2;
 const INSERTED_MARK: usize = 3;
 
 // What all numbers of a case along ways are drawn by.
-#[derive(Drop)]
+#[derive(Clone, Copy)]
 struct Case {
     shape: usize,
     steps: usize,
@@ -92,59 +94,64 @@ fn lower_place(n: usize, k: usize) -> usize {
 }
 
 // A node's number behind a space; nothing here is refused.
-fn show_node(a: Answer) {
-    text(b" ");
+fn show_node(stdout: Stdout, a: Answer) -> io::Result<()> {
+    text(stdout, b" ")?;
     if a.refusal != 0 {
-        text(b"?");
-        return;
+        return text(stdout, b"?");
     }
-    number(a.first);
+    number(stdout, a.first)
 }
 
 // Every node below the root is an update point, and the read goes from the marked node of the tree to that of a copy.
-fn marked_insert(shape: usize, n: usize, m: usize, k: usize) {
+fn marked_insert(stdout: Stdout, shape: usize, n: usize, m: usize, k: usize) -> io::Result<()> {
     let mut t = [0u16; WORDS];
     let mut x = [0u16; WORDS];
     marked(shape, n, lower_place(n, k / 3), MARK, &mut t);
     marked(shape, m, place(m, k), INSERTED_MARK, &mut x);
-    show_node(sloefertand_insert_evidence(
-        &[0, 0, 2, 2, 2, 3],
-        &[0, 0, 2, 0],
-        front(&x, words_of(m)),
-        front(&t, words_of(n)),
-    ));
+    show_node(
+        stdout,
+        sloefertand_insert_evidence(
+            &[0, 0, 2, 2, 2, 3],
+            &[0, 0, 2, 0],
+            front(&x, words_of(m)),
+            front(&t, words_of(n)),
+        ),
+    )
 }
 
-fn marked_inserts(shape: usize, n: usize, m: usize) {
-    text(b"marked-insert ");
-    spaced(shape);
-    spaced(n);
-    number(m);
+fn marked_inserts(stdout: Stdout, shape: usize, n: usize, m: usize) -> io::Result<()> {
+    text(stdout, b"marked-insert ")?;
+    spaced(stdout, shape)?;
+    spaced(stdout, n)?;
+    number(stdout, m)?;
     let mut k = 0;
     while k < 9 {
-        marked_insert(shape, n, m, k);
+        marked_insert(stdout, shape, n, m, k)?;
         k += 1;
     }
-    text(b"\n");
+    text(stdout, b"\n")
 }
 
 // Every node below the root without a mark is deleted, and the marked one is read.
-fn marked_delete(shape: usize, n: usize, k: usize) {
+fn marked_delete(stdout: Stdout, shape: usize, n: usize, k: usize) -> io::Result<()> {
     let mut t = [0u16; WORDS];
     marked(shape, n, lower_place(n, k), MARK, &mut t);
-    show_node(sloefertand_delete_evidence(&[0, 0, 2, 2], &[0, 0, 2, 1], front(&t, words_of(n))));
+    show_node(
+        stdout,
+        sloefertand_delete_evidence(&[0, 0, 2, 2], &[0, 0, 2, 1], front(&t, words_of(n))),
+    )
 }
 
-fn marked_deletes(shape: usize, n: usize) {
-    text(b"marked-delete ");
-    spaced(shape);
-    number(n);
+fn marked_deletes(stdout: Stdout, shape: usize, n: usize) -> io::Result<()> {
+    text(stdout, b"marked-delete ")?;
+    spaced(stdout, shape)?;
+    number(stdout, n)?;
     let mut k = 0;
     while k < 3 {
-        marked_delete(shape, n, k);
+        marked_delete(stdout, shape, n, k)?;
         k += 1;
     }
-    text(b"\n");
+    text(stdout, b"\n")
 }
 
 // The nodes of the proposed tree; long reads have larger ones.
@@ -254,64 +261,70 @@ fn way_insert(c: Case) -> Answer {
     )
 }
 
-fn way_deletes(shape: usize, steps: usize) {
-    text(b"way-delete ");
-    spaced(shape);
-    number(steps);
+fn way_deletes(stdout: Stdout, shape: usize, steps: usize) -> io::Result<()> {
+    text(stdout, b"way-delete ")?;
+    spaced(stdout, shape)?;
+    number(stdout, steps)?;
     let mut k = 0;
     while k < CASES {
-        show_node(way_delete(Case {
-            shape,
-            steps,
-            number: k,
-        }));
+        show_node(
+            stdout,
+            way_delete(Case {
+                shape,
+                steps,
+                number: k,
+            }),
+        )?;
         k += 1;
     }
-    text(b"\n");
+    text(stdout, b"\n")
 }
 
-fn way_inserts(shape: usize, steps: usize) {
-    text(b"way-insert ");
-    spaced(shape);
-    number(steps);
+fn way_inserts(stdout: Stdout, shape: usize, steps: usize) -> io::Result<()> {
+    text(stdout, b"way-insert ")?;
+    spaced(stdout, shape)?;
+    number(stdout, steps)?;
     let mut k = 0;
     while k < CASES {
-        show_node(way_insert(Case {
-            shape,
-            steps,
-            number: k,
-        }));
+        show_node(
+            stdout,
+            way_insert(Case {
+                shape,
+                steps,
+                number: k,
+            }),
+        )?;
         k += 1;
     }
-    text(b"\n");
+    text(stdout, b"\n")
 }
 
 // Both for so many steps.
-fn ways(shape: usize, steps: usize) {
-    way_deletes(shape, steps);
-    way_inserts(shape, steps);
+fn ways(stdout: Stdout, shape: usize, steps: usize) -> io::Result<()> {
+    way_deletes(stdout, shape, steps)?;
+    way_inserts(stdout, shape, steps)
 }
 
 // All lines of a shape.
-fn lines_of(shape: usize) {
-    marked_inserts(shape, 2, 1024);
-    marked_inserts(shape, 16, 256);
-    marked_inserts(shape, 17, 256);
-    marked_inserts(shape, 1024, 1);
-    marked_inserts(shape, 1024, 64);
-    marked_deletes(shape, 2);
-    marked_deletes(shape, 17);
-    marked_deletes(shape, 1024);
-    ways(shape, 2);
-    ways(shape, 4);
-    ways(shape, 32);
-    ways(shape, 127);
+fn lines_of(stdout: Stdout, shape: usize) -> io::Result<()> {
+    marked_inserts(stdout, shape, 2, 1024)?;
+    marked_inserts(stdout, shape, 16, 256)?;
+    marked_inserts(stdout, shape, 17, 256)?;
+    marked_inserts(stdout, shape, 1024, 1)?;
+    marked_inserts(stdout, shape, 1024, 64)?;
+    marked_deletes(stdout, shape, 2)?;
+    marked_deletes(stdout, shape, 17)?;
+    marked_deletes(stdout, shape, 1024)?;
+    ways(stdout, shape, 2)?;
+    ways(stdout, shape, 4)?;
+    ways(stdout, shape, 32)?;
+    ways(stdout, shape, 127)
 }
 
-pub(crate) fn lines() {
-    lines_of(1);
-    lines_of(2);
-    lines_of(3);
-    lines_of(4);
-    lines_of(5);
+pub(crate) fn lines(stdout: Stdout) -> io::Result<()> {
+    lines_of(stdout, 1)?;
+    lines_of(stdout, 2)?;
+    lines_of(stdout, 3)?;
+    lines_of(stdout, 4)?;
+    lines_of(stdout, 5)
 }

@@ -4,6 +4,8 @@ use crate::mode_lines;
 use crate::two_damages::{DAMAGES, Damage, written};
 use sloefertand::batches::sloefertand_step;
 use sloefertand::texts::{sloefertand_print, sloefertand_read_line, sloefertand_write_line};
+use std::io;
+use std::io::Stdout;
 use tables::words::{byte, word};
 use test_parts::numbering::{front, front_bytes};
 use test_parts::put::{put, put_all};
@@ -146,12 +148,12 @@ fn is_refusal(line: &[u8], words: &mut [u16]) -> bool {
 }
 
 // The line number, the refusal number and the offset in the line.
-fn show_refusal(words: &[u16]) {
-    number(word(words, 1));
-    text(b":");
-    number(word(words, 2));
-    text(b":");
-    number(word(words, 3));
+fn show_refusal(stdout: Stdout, words: &[u16]) -> io::Result<()> {
+    number(stdout, word(words, 1))?;
+    text(stdout, b":")?;
+    number(stdout, word(words, 2))?;
+    text(stdout, b":")?;
+    number(stdout, word(words, 3))
 }
 
 // Whether so many printed lines have 13 bytes each and begin with a kind.
@@ -163,87 +165,100 @@ fn is_plan(out: &[u8], frames: usize) -> bool {
 }
 
 // What was printed: a refusal's line alone, or a line a frame.
-fn show_printed(out: &[u8], frames: usize) {
+fn show_printed(stdout: Stdout, out: &[u8], frames: usize) -> io::Result<()> {
     let mut words = [0u16; 4];
     if out.len() == 17 {
         if is_refusal(front_bytes(out, 16), &mut words) {
-            show_refusal(&words);
-            return;
+            return show_refusal(stdout, &words);
         }
     }
     if is_plan(out, frames) {
-        text(b"ok");
-        return;
+        return text(stdout, b"ok");
     }
-    text(b"neither");
+    text(stdout, b"neither")
 }
 
 // The answer for an input that has so many frames.
-pub(crate) fn show_answer(input: &[u8], frames: usize) {
+pub(crate) fn show_answer(stdout: Stdout, input: &[u8], frames: usize) -> io::Result<()> {
     let mut out = [0u8; PRINTED];
     let a = sloefertand_print(input, &mut out);
-    text(b" ");
-    show_printed(front_bytes(&out, a.first), frames);
+    text(stdout, b" ")?;
+    show_printed(stdout, front_bytes(&out, a.first), frames)
 }
 
 // The answer for a batch with one line damaged, behind some lines.
-pub(crate) fn show_behind(before: &[u8], b: &[u16], frames: usize, d: Damage) {
+pub(crate) fn show_behind(
+    stdout: Stdout,
+    before: &[u8],
+    b: &[u16],
+    frames: usize,
+    d: Damage,
+) -> io::Result<()> {
     let mut input = [0u8; ROOM];
     let at = put_all(&mut input, 0, before);
     let n = put_lines(&mut input, at, b, frames, d);
-    show_answer(front_bytes(&input, n), frames);
+    show_answer(stdout, front_bytes(&input, n), frames)
 }
 
 // The same with no lines before it.
-fn show_damaged(b: &[u16], frames: usize, d: Damage) {
-    show_behind(&[], b, frames, d);
+fn show_damaged(stdout: Stdout, b: &[u16], frames: usize, d: Damage) -> io::Result<()> {
+    show_behind(stdout, &[], b, frames, d)
 }
 
 // The answers for some damages, and the end of their line.
-fn show_answers(b: &[u16], frames: usize, w: usize, first: usize, behind: usize) {
+fn show_answers(
+    stdout: Stdout,
+    b: &[u16],
+    frames: usize,
+    w: usize,
+    first: usize,
+    behind: usize,
+) -> io::Result<()> {
     let mut kind = first;
     while kind < behind {
-        show_damaged(b, frames, Damage { word: w, kind });
+        show_damaged(stdout, b, frames, Damage { word: w, kind })?;
         kind += 1;
     }
-    text(b"\n");
+    text(stdout, b"\n")
 }
 
 // Every word of a batch.
-fn words_of(name: usize, b: &[u16], frames: usize) {
+fn words_of(stdout: Stdout, name: usize, b: &[u16], frames: usize) -> io::Result<()> {
     let mut w = 0;
     while w < b.len() {
-        spaced(name);
-        number(w);
-        show_answers(b, frames, w, 0, DAMAGES);
+        spaced(stdout, name)?;
+        number(stdout, w)?;
+        show_answers(stdout, b, frames, w, 0, DAMAGES)?;
         w += 1;
     }
+    Ok(())
 }
 
 // Every line of a batch, known by its first word.
-fn texts_of(name: usize, b: &[u16], frames: usize) {
+fn texts_of(stdout: Stdout, name: usize, b: &[u16], frames: usize) -> io::Result<()> {
     let mut from = 0;
     let mut n = 0;
     while n < frames {
         let to = end_of(b, n, from);
-        spaced(name);
-        text(b"line ");
+        spaced(stdout, name)?;
+        text(stdout, b"line ")?;
         n += 1;
-        number(n);
-        show_answers(b, frames, from, CUT, ALL);
+        number(stdout, n)?;
+        show_answers(stdout, b, frames, from, CUT, ALL)?;
         from = to;
     }
+    Ok(())
 }
 
-fn lines(name: usize, b: &[u16], frames: usize) {
-    words_of(name, b, frames);
-    texts_of(name, b, frames);
-    mode_lines::lines(name, b, frames);
+fn lines(stdout: Stdout, name: usize, b: &[u16], frames: usize) -> io::Result<()> {
+    words_of(stdout, name, b, frames)?;
+    texts_of(stdout, name, b, frames)?;
+    mode_lines::lines(stdout, name, b, frames)
 }
 
-pub(crate) fn table() {
-    lines(1, &FIRST, 5);
-    lines(2, &SECOND, 2);
-    lines(3, &THIRD, 1);
-    lines(4, &FOURTH, 3);
+pub(crate) fn table(stdout: Stdout) -> io::Result<()> {
+    lines(stdout, 1, &FIRST, 5)?;
+    lines(stdout, 2, &SECOND, 2)?;
+    lines(stdout, 3, &THIRD, 1)?;
+    lines(stdout, 4, &FOURTH, 3)
 }

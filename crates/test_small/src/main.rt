@@ -14,11 +14,13 @@ mod wider;
 mod wider_pairs;
 mod wider_plans;
 
-fn main() {
-    pairs::table();
-    damage::table();
-    plans::table();
-    line_damage::table();
-    evidence::table();
-    wider::table();
+use std::io;
+
+fn main(rt: HostRuntime) -> io::Result<()> {
+    pairs::table(rt.stdout())?;
+    damage::table(rt.stdout())?;
+    plans::table(rt.stdout())?;
+    line_damage::table(rt.stdout())?;
+    evidence::table(rt.stdout())?;
+    wider::table(rt.stdout())
 }

@@ -4,6 +4,8 @@ use sloefertand::verdicts::{
     sloefertand_deep_delete_verdict, sloefertand_deep_insert_verdict, sloefertand_delete_verdict,
     sloefertand_insert_verdict,
 };
+use std::io;
+use std::io::Stdout;
 use test_parts::numbering::{INSERTED, PATTERNS, SINGLE, front, pattern, tree};
 use test_parts::show::text;
 
@@ -62,58 +64,61 @@ fn signs(p: &[u16], x: &[u16]) -> [u8; PATTERNS + 1] {
     row
 }
 
-fn line(p: &[u16], x: &[u16]) {
+fn line(stdout: Stdout, p: &[u16], x: &[u16]) -> io::Result<()> {
     let row = signs(p, x);
-    text(&row);
+    text(stdout, &row)
 }
 
 // The delete of pattern k.
-fn delete_line(k: usize) {
+fn delete_line(stdout: Stdout, k: usize) -> io::Result<()> {
     let mut words = [0u16; 6];
     let n = pattern(k, &mut words);
-    line(front(&words, n), &[]);
+    line(stdout, front(&words, n), &[])
 }
 
-fn deletes() {
+fn deletes(stdout: Stdout) -> io::Result<()> {
     let mut k = SINGLE;
     while k < PATTERNS {
-        delete_line(k);
+        delete_line(stdout, k)?;
         k += 1;
     }
+    Ok(())
 }
 
 // The insert of tree x at p.
-fn insert_line(p: &[u16], x: usize) {
+fn insert_line(stdout: Stdout, p: &[u16], x: usize) -> io::Result<()> {
     let mut words = [0u16; 6];
     let n = tree(x, &mut words);
-    line(p, front(&words, n));
+    line(stdout, p, front(&words, n))
 }
 
 // Every insert at p.
-fn inserts_at(p: &[u16]) {
+fn inserts_at(stdout: Stdout, p: &[u16]) -> io::Result<()> {
     let mut x = 0;
     while x < INSERTED {
-        insert_line(p, x);
+        insert_line(stdout, p, x)?;
         x += 1;
     }
+    Ok(())
 }
 
 // Every insert at pattern k.
-fn insert_lines(k: usize) {
+fn insert_lines(stdout: Stdout, k: usize) -> io::Result<()> {
     let mut words = [0u16; 6];
     let n = pattern(k, &mut words);
-    inserts_at(front(&words, n));
+    inserts_at(stdout, front(&words, n))
 }
 
-fn inserts() {
+fn inserts(stdout: Stdout) -> io::Result<()> {
     let mut k = 0;
     while k < PATTERNS {
-        insert_lines(k);
+        insert_lines(stdout, k)?;
         k += 1;
     }
+    Ok(())
 }
 
-pub(crate) fn table() {
-    deletes();
-    inserts();
+pub(crate) fn table(stdout: Stdout) -> io::Result<()> {
+    deletes(stdout)?;
+    inserts(stdout)
 }

@@ -1,5 +1,7 @@
 // Table 4: plans of random batches from a fixed seed, in both modes.
 use sloefertand::batches::{sloefertand_plan, sloefertand_plan_in};
+use std::io;
+use std::io::Stdout;
 use test_parts::numbering::{INSERTED, PATTERNS, SINGLE, front, pattern, tree};
 use test_parts::show::{digit, text};
 
@@ -116,79 +118,80 @@ pub(crate) fn drafted(b: &mut [u16], frames: usize, state: u64) -> Draft {
 }
 
 // Two digits of a plan word.
-fn show_word(w: u16) {
+fn show_word(stdout: Stdout, w: u16) -> io::Result<()> {
     let n = w as u64;
-    text(&[digit(n / 16), digit(n)]);
+    text(stdout, &[digit(n / 16), digit(n)])
 }
 
 // What was planned into an output of just its length.
-fn show_planned(refusal: usize, out: &[u16]) {
+fn show_planned(stdout: Stdout, refusal: usize, out: &[u16]) -> io::Result<()> {
     if refusal != 0 {
-        text(b"refused");
-        return;
+        return text(stdout, b"refused");
     }
-    show_words(out);
+    show_words(stdout, out)
 }
 
 // The node plan, its mode named.
-fn node_planned(b: &[u16], out: &mut [u16]) {
+fn node_planned(stdout: Stdout, b: &[u16], out: &mut [u16]) -> io::Result<()> {
     let a = sloefertand_plan_in(NODE, b, out);
-    show_planned(a.refusal, out);
+    show_planned(stdout, a.refusal, out)
 }
 
 // The deep plan, by a call that names no mode.
-fn deep_planned(b: &[u16], out: &mut [u16]) {
+fn deep_planned(stdout: Stdout, b: &[u16], out: &mut [u16]) -> io::Result<()> {
     let a = sloefertand_plan(b, out);
-    show_planned(a.refusal, out);
+    show_planned(stdout, a.refusal, out)
 }
 
-fn show_node(b: &[u16], frames: usize) {
+fn show_node(stdout: Stdout, b: &[u16], frames: usize) -> io::Result<()> {
     let mut out = [255u16; FRAMES];
     if FRAMES < frames {
-        return;
+        return Ok(());
     }
-    node_planned(b, &mut out[0..frames]);
+    node_planned(stdout, b, &mut out[0..frames])
 }
 
-fn show_deep(b: &[u16], frames: usize) {
+fn show_deep(stdout: Stdout, b: &[u16], frames: usize) -> io::Result<()> {
     let mut out = [255u16; FRAMES];
     if FRAMES < frames {
-        return;
+        return Ok(());
     }
-    deep_planned(b, &mut out[0..frames]);
+    deep_planned(stdout, b, &mut out[0..frames])
 }
 
 // A batch's line: its two plans.
-fn show_plans(b: &[u16], frames: usize) {
-    show_node(b, frames);
-    text(b" ");
-    show_deep(b, frames);
-    text(b"\n");
+fn show_plans(stdout: Stdout, b: &[u16], frames: usize) -> io::Result<()> {
+    show_node(stdout, b, frames)?;
+    text(stdout, b" ")?;
+    show_deep(stdout, b, frames)?;
+    text(stdout, b"\n")
 }
 
-fn show_words(t: &[u16]) {
+fn show_words(stdout: Stdout, t: &[u16]) -> io::Result<()> {
     let mut i = 0;
     while i < t.len() {
-        show_word(t[i]);
+        show_word(stdout, t[i])?;
         i += 1;
     }
+    Ok(())
 }
 
 // A batch from a state; the state after it.
-fn batch_from(state: u64) -> u64 {
+fn batch_from(stdout: Stdout, state: u64) -> io::Result<u64> {
     let mut b = [0u16; WORDS];
     let first = moved(state);
     let frames = drawn(first, FRAMES) % FRAMES + 1;
     let d = drafted(&mut b, frames, first);
-    show_plans(front(&b, d.at), frames);
-    d.state
+    show_plans(stdout, front(&b, d.at), frames)?;
+    Ok(d.state)
 }
 
-pub(crate) fn table() {
+pub(crate) fn table(stdout: Stdout) -> io::Result<()> {
     let mut s = SEED;
     let mut n = 0;
     while n < BATCHES {
-        s = batch_from(s);
+        s = batch_from(stdout, s)?;
         n += 1;
     }
+    Ok(())
 }

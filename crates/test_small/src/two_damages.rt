@@ -1,6 +1,8 @@
 // Table 3, two words at once: every two damages of some batches.
 use crate::damage::word_of;
 use sloefertand::batches::sloefertand_plan;
+use std::io;
+use std::io::Stdout;
 use test_parts::digest::{refusal, taken};
 use test_parts::numbering::front;
 use test_parts::show::{eight, spaced, text};
@@ -19,7 +21,7 @@ const TWICE: usize = 22;
 pub(crate) const DAMAGES: usize = 23;
 
 // A word and its damage.
-#[derive(Drop)]
+#[derive(Clone, Copy)]
 pub(crate) struct Damage {
     pub(crate) word: usize,
     pub(crate) kind: usize,
@@ -130,29 +132,31 @@ fn digest_of(b: &[u16], word: usize, later: usize) -> u64 {
     sum
 }
 
-fn line(name: usize, b: &[u16], word: usize, later: usize) {
-    spaced(name);
-    spaced(word);
-    spaced(later);
-    eight(digest_of(b, word, later));
-    text(b"\n");
+fn line(stdout: Stdout, name: usize, b: &[u16], word: usize, later: usize) -> io::Result<()> {
+    spaced(stdout, name)?;
+    spaced(stdout, word)?;
+    spaced(stdout, later)?;
+    eight(stdout, digest_of(b, word, later))?;
+    text(stdout, b"\n")
 }
 
 // A word with each from a later one on.
-fn lines_of(name: usize, b: &[u16], word: usize, from: usize) {
+fn lines_of(stdout: Stdout, name: usize, b: &[u16], word: usize, from: usize) -> io::Result<()> {
     let mut later = from;
     while later < b.len() {
-        line(name, b, word, later);
+        line(stdout, name, b, word, later)?;
         later += 1;
     }
+    Ok(())
 }
 
 // Every two words of a batch.
-pub(crate) fn lines(name: usize, b: &[u16]) {
+pub(crate) fn lines(stdout: Stdout, name: usize, b: &[u16]) -> io::Result<()> {
     let mut word = 0;
     while word < b.len() {
         let next = word + 1;
-        lines_of(name, b, word, next);
+        lines_of(stdout, name, b, word, next)?;
         word = next;
     }
+    Ok(())
 }

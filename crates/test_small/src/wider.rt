@@ -3,6 +3,8 @@ use crate::wider_pairs::{
     AXIS, Change, LABEL, NO_TREE, NOWHERE, Pair, READ, TREE, UPDATE, Verdict, judged, possible,
 };
 use crate::wider_plans;
+use std::io;
+use std::io::Stdout;
 use test_parts::digest::taken;
 use test_parts::numbering::{PATTERNS, SINGLE};
 use test_parts::show::{eight, spaced, text};
@@ -17,7 +19,7 @@ const STEPS: usize = 3;
 const HANGS: usize = 6;
 
 // What a line changes.
-#[derive(Drop)]
+#[derive(Clone, Copy)]
 struct Kind {
     of: usize,
     part: usize,
@@ -212,52 +214,53 @@ fn nothing() -> Sums {
     }
 }
 
-fn show_kept(k: Kept) {
-    spaced(k.both);
-    spaced(k.new);
-    spaced(k.lost);
+fn show_kept(stdout: Stdout, k: Kept) -> io::Result<()> {
+    spaced(stdout, k.both)?;
+    spaced(stdout, k.new)?;
+    spaced(stdout, k.lost)
 }
 
-fn show(s: Sums) {
-    spaced(s.tried);
-    show_kept(s.node);
-    spaced(s.smaller);
-    spaced(s.larger);
-    show_kept(s.deep);
-    eight(s.digest);
-    text(b"\n");
+fn show(stdout: Stdout, s: Sums) -> io::Result<()> {
+    spaced(stdout, s.tried)?;
+    show_kept(stdout, s.node)?;
+    spaced(stdout, s.smaller)?;
+    spaced(stdout, s.larger)?;
+    show_kept(stdout, s.deep)?;
+    eight(stdout, s.digest)?;
+    text(stdout, b"\n")
 }
 
-fn delete_line(name: &[u8], kind: Kind) {
-    text(b"wider ");
-    text(name);
-    text(b" delete ");
-    show(deletes(kind));
+fn delete_line(stdout: Stdout, name: &[u8], kind: Kind) -> io::Result<()> {
+    text(stdout, b"wider ")?;
+    text(stdout, name)?;
+    text(stdout, b" delete ")?;
+    show(stdout, deletes(kind))
 }
 
-fn insert_line(name: &[u8], kind: Kind) {
-    text(b"wider ");
-    text(name);
-    text(b" insert ");
-    show(inserts(kind));
+fn insert_line(stdout: Stdout, name: &[u8], kind: Kind) -> io::Result<()> {
+    text(stdout, b"wider ")?;
+    text(stdout, name)?;
+    text(stdout, b" insert ")?;
+    show(stdout, inserts(kind))
 }
 
-fn lines(name: &[u8], of: usize, part: usize) {
-    delete_line(name, Kind { of, part });
-    insert_line(name, Kind { of, part });
+fn lines(stdout: Stdout, name: &[u8], of: usize, part: usize) -> io::Result<()> {
+    delete_line(stdout, name, Kind { of, part })?;
+    insert_line(stdout, name, Kind { of, part })
 }
 
-pub(crate) fn table() {
-    lines(b"read-label", READ, LABEL);
-    lines(b"read-axis", READ, AXIS);
-    lines(b"update-label", UPDATE, LABEL);
-    lines(b"update-axis", UPDATE, AXIS);
+pub(crate) fn table(stdout: Stdout) -> io::Result<()> {
+    lines(stdout, b"read-label", READ, LABEL)?;
+    lines(stdout, b"read-axis", READ, AXIS)?;
+    lines(stdout, b"update-label", UPDATE, LABEL)?;
+    lines(stdout, b"update-axis", UPDATE, AXIS)?;
     insert_line(
+        stdout,
         b"tree",
         Kind {
             of: TREE,
             part: AXIS,
         },
-    );
-    wider_plans::lines();
+    )?;
+    wider_plans::lines(stdout)
 }

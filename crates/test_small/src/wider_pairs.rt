@@ -26,7 +26,7 @@ pub(crate) const LABEL: usize = 1;
 pub(crate) const NOWHERE: usize = 6;
 
 // A pair by the numbers of its read's pattern, its update's and its inserted tree.
-#[derive(Drop)]
+#[derive(Clone, Copy)]
 pub(crate) struct Pair {
     pub(crate) read: usize,
     pub(crate) update: usize,
@@ -34,14 +34,14 @@ pub(crate) struct Pair {
 }
 
 // What is changed, and where: a word of the pattern, or the choice of the node to come.
-#[derive(Drop)]
+#[derive(Clone, Copy)]
 pub(crate) struct Change {
     pub(crate) of: usize,
     pub(crate) at: usize,
 }
 
 // The nodes of a smallest witness, 0 for none, and the deep verdict.
-#[derive(Drop)]
+#[derive(Clone, Copy)]
 pub(crate) struct Verdict {
     pub(crate) nodes: usize,
     pub(crate) deep: bool,

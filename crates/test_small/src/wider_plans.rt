@@ -2,6 +2,8 @@
 use crate::plans::{FRAMES, NODE, SEED, WORDS, drafted, drawn, moved};
 use crate::wider_pairs::{widen, widens};
 use sloefertand::batches::{sloefertand_plan, sloefertand_plan_in, sloefertand_step};
+use std::io;
+use std::io::Stdout;
 use tables::words::word;
 use test_parts::digest::words;
 use test_parts::numbering::front;
@@ -27,7 +29,7 @@ struct Sums {
 }
 
 // A read: its frame, and where its steps begin and end.
-#[derive(Drop)]
+#[derive(Clone, Copy)]
 struct Read {
     frame: usize,
     from: usize,
@@ -213,19 +215,19 @@ fn nothing() -> Sums {
     }
 }
 
-fn line(name: &[u8], s: Sums) {
-    text(b"wider-plans ");
-    text(name);
-    spaced(s.tried);
-    spaced(s.same);
-    spaced(s.away);
-    spaced(s.towards);
-    spaced(s.others);
-    eight(s.digest);
-    text(b"\n");
+fn line(stdout: Stdout, name: &[u8], s: Sums) -> io::Result<()> {
+    text(stdout, b"wider-plans ")?;
+    text(stdout, name)?;
+    spaced(stdout, s.tried)?;
+    spaced(stdout, s.same)?;
+    spaced(stdout, s.away)?;
+    spaced(stdout, s.towards)?;
+    spaced(stdout, s.others)?;
+    eight(stdout, s.digest)?;
+    text(stdout, b"\n")
 }
 
-pub(crate) fn lines() {
-    line(b"node ", batches(true));
-    line(b"deep ", batches(false));
+pub(crate) fn lines(stdout: Stdout) -> io::Result<()> {
+    line(stdout, b"node ", batches(true))?;
+    line(stdout, b"deep ", batches(false))
 }

@@ -1,5 +1,7 @@
 // Table 11, deep texts: thousands of elements inside each other, and end tags that are wrong.
 use crate::read_tags::read;
+use std::io;
+use std::io::Stdout;
 use tables::words::word;
 use test_parts::numbering::front_bytes;
 use test_parts::put::{put, put_all};
@@ -27,7 +29,7 @@ const MORE: usize = 3;
 const NONE: usize = 4;
 
 // So many levels down, so many of them up and down again, and then all up; the last end tag of a level with a damage, 0 for none.
-#[derive(Drop)]
+#[derive(Clone, Copy)]
 struct Way {
     down: usize,
     again: usize,
@@ -155,25 +157,25 @@ fn put_way(out: &mut [u8], w: Way) -> usize {
 }
 
 // The refusal of a text behind a space; none here is a tree that may be read.
-fn show_refusal(s: &[u8]) {
+fn show_refusal(stdout: Stdout, s: &[u8]) -> io::Result<()> {
     let a = read(s, &mut []);
-    text(b" ");
-    number(a.refusal);
-    text(b":");
-    number(a.table);
-    text(b":");
-    number(a.place);
+    text(stdout, b" ")?;
+    number(stdout, a.refusal)?;
+    text(stdout, b":")?;
+    number(stdout, a.table)?;
+    text(stdout, b":")?;
+    number(stdout, a.place)
 }
 
 // The text of a way.
-fn show_way(w: Way) {
+fn show_way(stdout: Stdout, w: Way) -> io::Result<()> {
     let mut out = room();
     let n = put_way(&mut out, w);
-    show_refusal(front_bytes(&out, n));
+    show_refusal(stdout, front_bytes(&out, n))
 }
 
 // Its start to place k.
-fn show_cut(down: usize, again: usize, k: usize) {
+fn show_cut(stdout: Stdout, down: usize, again: usize, k: usize) -> io::Result<()> {
     let mut out = room();
     let n = put_way(
         &mut out,
@@ -184,7 +186,7 @@ fn show_cut(down: usize, again: usize, k: usize) {
             damage: 0,
         },
     );
-    show_refusal(front_bytes(&out, first(k % CUTS * APART, n)));
+    show_refusal(stdout, front_bytes(&out, first(k % CUTS * APART, n)))
 }
 
 // Level k of those whose last end tags are damaged: the three outermost, one half way, and some counted back from the number of all.
@@ -201,63 +203,69 @@ fn level(down: usize, k: usize) -> usize {
     )
 }
 
-fn show_name(name: &[u8], down: usize, again: usize) {
-    text(name);
-    spaced(down);
-    number(again);
+fn show_name(stdout: Stdout, name: &[u8], down: usize, again: usize) -> io::Result<()> {
+    text(stdout, name)?;
+    spaced(stdout, down)?;
+    number(stdout, again)
 }
 
-fn whole(down: usize, again: usize) {
-    show_name(b"deep ", down, again);
-    show_way(Way {
-        down,
-        again,
-        level: 0,
-        damage: 0,
-    });
-    text(b"\n");
-}
-
-fn cuts(down: usize, again: usize) {
-    show_name(b"deep-cut ", down, again);
-    let mut k = 0;
-    while k < CUTS {
-        show_cut(down, again, k);
-        k += 1;
-    }
-    text(b"\n");
-}
-
-fn ends(name: &[u8], down: usize, again: usize, damage: usize) {
-    show_name(name, down, again);
-    let mut k = 0;
-    while k < LEVELS {
-        show_way(Way {
+fn whole(stdout: Stdout, down: usize, again: usize) -> io::Result<()> {
+    show_name(stdout, b"deep ", down, again)?;
+    show_way(
+        stdout,
+        Way {
             down,
             again,
-            level: level(down, k),
-            damage,
-        });
+            level: 0,
+            damage: 0,
+        },
+    )?;
+    text(stdout, b"\n")
+}
+
+fn cuts(stdout: Stdout, down: usize, again: usize) -> io::Result<()> {
+    show_name(stdout, b"deep-cut ", down, again)?;
+    let mut k = 0;
+    while k < CUTS {
+        show_cut(stdout, down, again, k)?;
         k += 1;
     }
-    text(b"\n");
+    text(stdout, b"\n")
+}
+
+fn ends(stdout: Stdout, name: &[u8], down: usize, again: usize, damage: usize) -> io::Result<()> {
+    show_name(stdout, name, down, again)?;
+    let mut k = 0;
+    while k < LEVELS {
+        show_way(
+            stdout,
+            Way {
+                down,
+                again,
+                level: level(down, k),
+                damage,
+            },
+        )?;
+        k += 1;
+    }
+    text(stdout, b"\n")
 }
 
 // All lines of a way.
-fn lines_of(down: usize, again: usize) {
-    whole(down, again);
-    cuts(down, again);
-    ends(b"deep-end-1 ", down, again, OTHER);
-    ends(b"deep-end-2 ", down, again, LESS);
-    ends(b"deep-end-3 ", down, again, MORE);
-    ends(b"deep-end-4 ", down, again, NONE);
+fn lines_of(stdout: Stdout, down: usize, again: usize) -> io::Result<()> {
+    whole(stdout, down, again)?;
+    cuts(stdout, down, again)?;
+    ends(stdout, b"deep-end-1 ", down, again, OTHER)?;
+    ends(stdout, b"deep-end-2 ", down, again, LESS)?;
+    ends(stdout, b"deep-end-3 ", down, again, MORE)?;
+    ends(stdout, b"deep-end-4 ", down, again, NONE)
 }
 
-pub(crate) fn lines() {
-    lines_of(1200, 0);
-    lines_of(4096, 0);
-    lines_of(4097, 0);
-    lines_of(9000, 0);
-    lines_of(6000, 3000);
-    lines_of(5000, 4100);
+pub(crate) fn lines(stdout: Stdout) -> io::Result<()> {
+    lines_of(stdout, 1200, 0)?;
+    lines_of(stdout, 4096, 0)?;
+    lines_of(stdout, 4097, 0)?;
+    lines_of(stdout, 9000, 0)?;
+    lines_of(stdout, 6000, 3000)?;
+    lines_of(stdout, 5000, 4100)
 }

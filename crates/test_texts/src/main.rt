@@ -13,8 +13,10 @@ mod text_patterns;
 mod texts;
 mod tree_tags;
 
-fn main() {
-    texts::table();
-    tree_tags::table();
-    read_tags::table();
+use std::io;
+
+fn main(rt: HostRuntime) -> io::Result<()> {
+    texts::table(rt.stdout())?;
+    tree_tags::table(rt.stdout())?;
+    read_tags::table(rt.stdout())
 }

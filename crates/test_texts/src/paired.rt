@@ -1,5 +1,7 @@
 // Table 5, two faults at once: every small list with every small text, and with every small pattern.
 use sloefertand::patterns::{sloefertand_read_pattern, sloefertand_write_pattern};
+use std::io;
+use std::io::Stdout;
 use test_parts::digest::{bytes, words};
 use test_parts::numbering::{front, front_bytes};
 use test_parts::rows;
@@ -132,10 +134,10 @@ fn patterns() -> u64 {
     d
 }
 
-pub(crate) fn lines() {
-    text(b"list-and-text ");
-    eight(texts());
-    text(b"\nlist-and-pattern ");
-    eight(patterns());
-    text(b"\n");
+pub(crate) fn lines(stdout: Stdout) -> io::Result<()> {
+    text(stdout, b"list-and-text ")?;
+    eight(stdout, texts())?;
+    text(stdout, b"\nlist-and-pattern ")?;
+    eight(stdout, patterns())?;
+    text(stdout, b"\n")
 }

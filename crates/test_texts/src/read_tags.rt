@@ -3,6 +3,8 @@ use crate::tag_texts::{damaged_text, inside_text, large_text, long_text, tag_row
 use crate::{deep_tags, tag_bytes, tag_labels};
 use c_answer::answer::Answer;
 use sloefertand::trees::sloefertand_read_tree;
+use std::io;
+use std::io::Stdout;
 use test_parts::digest::words;
 use test_parts::numbering::front_bytes;
 use test_parts::rows;
@@ -197,57 +199,57 @@ fn texts(part: usize, n: usize, count: usize) -> Sums {
     s
 }
 
-fn line(name: &[u8], part: usize, n: usize, count: usize) {
-    show_sums(name, n, texts(part, n, count));
+fn line(stdout: Stdout, name: &[u8], part: usize, n: usize, count: usize) -> io::Result<()> {
+    show_sums(stdout, name, n, texts(part, n, count))
 }
 
 // Every length, with six kinds of bytes.
-fn text_lines() {
-    line(b"tag-texts ", TEXTS, 0, 1);
-    line(b"tag-texts ", TEXTS, 1, 6);
-    line(b"tag-texts ", TEXTS, 2, 36);
-    line(b"tag-texts ", TEXTS, 3, 216);
-    line(b"tag-texts ", TEXTS, 4, 1296);
-    line(b"tag-texts ", TEXTS, 5, 7776);
-    line(b"tag-texts ", TEXTS, 6, 46656);
-    line(b"tag-texts ", TEXTS, 7, 279936);
+fn text_lines(stdout: Stdout) -> io::Result<()> {
+    line(stdout, b"tag-texts ", TEXTS, 0, 1)?;
+    line(stdout, b"tag-texts ", TEXTS, 1, 6)?;
+    line(stdout, b"tag-texts ", TEXTS, 2, 36)?;
+    line(stdout, b"tag-texts ", TEXTS, 3, 216)?;
+    line(stdout, b"tag-texts ", TEXTS, 4, 1296)?;
+    line(stdout, b"tag-texts ", TEXTS, 5, 7776)?;
+    line(stdout, b"tag-texts ", TEXTS, 6, 46656)?;
+    line(stdout, b"tag-texts ", TEXTS, 7, 279936)
 }
 
 // Every number of tags, of six kinds.
-fn row_lines() {
-    line(b"tag-rows ", ROWS, 0, 1);
-    line(b"tag-rows ", ROWS, 1, 6);
-    line(b"tag-rows ", ROWS, 2, 36);
-    line(b"tag-rows ", ROWS, 3, 216);
-    line(b"tag-rows ", ROWS, 4, 1296);
-    line(b"tag-rows ", ROWS, 5, 7776);
-    line(b"tag-rows ", ROWS, 6, 46656);
-    line(b"cut-rows ", CUT_ROWS, 0, 1);
-    line(b"cut-rows ", CUT_ROWS, 1, 6);
-    line(b"cut-rows ", CUT_ROWS, 2, 36);
-    line(b"cut-rows ", CUT_ROWS, 3, 216);
-    line(b"cut-rows ", CUT_ROWS, 4, 1296);
+fn row_lines(stdout: Stdout) -> io::Result<()> {
+    line(stdout, b"tag-rows ", ROWS, 0, 1)?;
+    line(stdout, b"tag-rows ", ROWS, 1, 6)?;
+    line(stdout, b"tag-rows ", ROWS, 2, 36)?;
+    line(stdout, b"tag-rows ", ROWS, 3, 216)?;
+    line(stdout, b"tag-rows ", ROWS, 4, 1296)?;
+    line(stdout, b"tag-rows ", ROWS, 5, 7776)?;
+    line(stdout, b"tag-rows ", ROWS, 6, 46656)?;
+    line(stdout, b"cut-rows ", CUT_ROWS, 0, 1)?;
+    line(stdout, b"cut-rows ", CUT_ROWS, 1, 6)?;
+    line(stdout, b"cut-rows ", CUT_ROWS, 2, 36)?;
+    line(stdout, b"cut-rows ", CUT_ROWS, 3, 216)?;
+    line(stdout, b"cut-rows ", CUT_ROWS, 4, 1296)
 }
 
 // All lines of a shape.
-fn shape_lines(shape: usize) {
-    line(b"tag-large ", LARGE, shape, 8);
-    line(b"tag-long ", AT_LENGTH, shape, 8);
-    line(b"tag-inside ", INSIDE, shape, 3);
-    line(b"tag-inside-cut ", INSIDE_CUT, shape, 3);
-    line(b"tag-damaged ", DAMAGED, shape, 240);
+fn shape_lines(stdout: Stdout, shape: usize) -> io::Result<()> {
+    line(stdout, b"tag-large ", LARGE, shape, 8)?;
+    line(stdout, b"tag-long ", AT_LENGTH, shape, 8)?;
+    line(stdout, b"tag-inside ", INSIDE, shape, 3)?;
+    line(stdout, b"tag-inside-cut ", INSIDE_CUT, shape, 3)?;
+    line(stdout, b"tag-damaged ", DAMAGED, shape, 240)
 }
 
-pub(crate) fn table() {
-    tag_bytes::lines();
-    text_lines();
-    row_lines();
-    tag_labels::lines();
-    shape_lines(0);
-    shape_lines(1);
-    shape_lines(2);
-    shape_lines(3);
-    shape_lines(4);
-    shape_lines(5);
-    deep_tags::lines();
+pub(crate) fn table(stdout: Stdout) -> io::Result<()> {
+    tag_bytes::lines(stdout)?;
+    text_lines(stdout)?;
+    row_lines(stdout)?;
+    tag_labels::lines(stdout)?;
+    shape_lines(stdout, 0)?;
+    shape_lines(stdout, 1)?;
+    shape_lines(stdout, 2)?;
+    shape_lines(stdout, 3)?;
+    shape_lines(stdout, 4)?;
+    shape_lines(stdout, 5)?;
+    deep_tags::lines(stdout)
 }

@@ -1,5 +1,7 @@
 // Table 5, one byte: what each of the 256 does in a text and in a list.
 use sloefertand::patterns::sloefertand_read_pattern;
+use std::io;
+use std::io::Stdout;
 use test_parts::answers::{code, earlier_than, show_answer};
 use test_parts::show::{spaced, text};
 
@@ -24,33 +26,33 @@ fn answer(place: usize, b: u8) -> usize {
 }
 
 // Bytes that have one answer.
-fn show_run(name: &[u8], from: usize, to: usize, a: usize) {
-    text(name);
-    spaced(from);
-    spaced(to);
-    show_answer(a);
+fn show_run(stdout: Stdout, name: &[u8], from: usize, to: usize, a: usize) -> io::Result<()> {
+    text(stdout, name)?;
+    spaced(stdout, from)?;
+    spaced(stdout, to)?;
+    show_answer(stdout, a)
 }
 
 // Every byte in a place.
-fn lines_of(name: &[u8], place: usize) {
+fn lines_of(stdout: Stdout, name: &[u8], place: usize) -> io::Result<()> {
     let mut from = 0;
     let mut last = answer(place, 0);
     let mut b = 1;
     while b < 256 {
         let a = answer(place, (b % 256) as u8);
         if a != last {
-            show_run(name, from, earlier_than(b, 0), last);
+            show_run(stdout, name, from, earlier_than(b, 0), last)?;
             from = b;
             last = a;
         }
         b += 1;
     }
-    show_run(name, from, 255, last);
+    show_run(stdout, name, from, 255, last)
 }
 
-pub(crate) fn lines() {
-    lines_of(b"text-first ", 0);
-    lines_of(b"text-later ", 1);
-    lines_of(b"list-first ", 2);
-    lines_of(b"list-later ", 3);
+pub(crate) fn lines(stdout: Stdout) -> io::Result<()> {
+    lines_of(stdout, b"text-first ", 0)?;
+    lines_of(stdout, b"text-later ", 1)?;
+    lines_of(stdout, b"list-first ", 2)?;
+    lines_of(stdout, b"list-later ", 3)
 }

@@ -1,5 +1,7 @@
 // Table 11, one byte: what each of the 256 does at each place of two texts, and behind them.
 use crate::read_tags::read;
+use std::io;
+use std::io::Stdout;
 use test_parts::answers::{code, earlier_than, show_answer};
 use test_parts::numbering::front_bytes;
 use test_parts::put::put_instead;
@@ -17,42 +19,49 @@ fn answer(s: &[u8], at: usize, b: u8) -> usize {
 }
 
 // Bytes that have one answer.
-fn show_run(name: &[u8], at: usize, from: usize, to: usize, a: usize) {
-    text(name);
-    spaced(at);
-    spaced(from);
-    spaced(to);
-    show_answer(a);
+fn show_run(
+    stdout: Stdout,
+    name: &[u8],
+    at: usize,
+    from: usize,
+    to: usize,
+    a: usize,
+) -> io::Result<()> {
+    text(stdout, name)?;
+    spaced(stdout, at)?;
+    spaced(stdout, from)?;
+    spaced(stdout, to)?;
+    show_answer(stdout, a)
 }
 
 // Every byte at a place.
-fn lines_at(name: &[u8], s: &[u8], at: usize) {
+fn lines_at(stdout: Stdout, name: &[u8], s: &[u8], at: usize) -> io::Result<()> {
     let mut from = 0;
     let mut last = answer(s, at, 0);
     let mut b = 1;
     while b < 256 {
         let a = answer(s, at, (b % 256) as u8);
         if a != last {
-            show_run(name, at, from, earlier_than(b, 0), last);
+            show_run(stdout, name, at, from, earlier_than(b, 0), last)?;
             from = b;
             last = a;
         }
         b += 1;
     }
-    show_run(name, at, from, 255, last);
+    show_run(stdout, name, at, from, 255, last)
 }
 
 // Every place, and behind the last.
-fn lines_of(name: &[u8], s: &[u8]) {
+fn lines_of(stdout: Stdout, name: &[u8], s: &[u8]) -> io::Result<()> {
     let mut at = 0;
     while at < s.len() {
-        lines_at(name, s, at);
+        lines_at(stdout, name, s, at)?;
         at += 1;
     }
-    lines_at(name, s, s.len());
+    lines_at(stdout, name, s, s.len())
 }
 
-pub(crate) fn lines() {
-    lines_of(b"tag-byte 0 ", b"<n12><n3/></n12>");
-    lines_of(b"tag-byte 1 ", b"<n65535></n65535>");
+pub(crate) fn lines(stdout: Stdout) -> io::Result<()> {
+    lines_of(stdout, b"tag-byte 0 ", b"<n12><n3/></n12>")?;
+    lines_of(stdout, b"tag-byte 1 ", b"<n65535></n65535>")
 }

@@ -1,5 +1,7 @@
 // Table 5, lists: one text read with each.
 use sloefertand::patterns::sloefertand_read_pattern;
+use std::io;
+use std::io::Stdout;
 use test_parts::digest::words;
 use test_parts::rows;
 use test_parts::show::{eight, spaced, text};
@@ -45,24 +47,24 @@ fn lists_of(length: usize, count: usize) -> Tally {
     t
 }
 
-fn line_of(length: usize, count: usize) {
+fn line_of(stdout: Stdout, length: usize, count: usize) -> io::Result<()> {
     let t = lists_of(length, count);
-    text(b"lists ");
-    spaced(length);
-    spaced(t.answered);
-    eight(t.digest);
-    text(b"\n");
+    text(stdout, b"lists ")?;
+    spaced(stdout, length)?;
+    spaced(stdout, t.answered)?;
+    eight(stdout, t.digest)?;
+    text(stdout, b"\n")
 }
 
 // Every length, with five kinds of bytes.
-pub(crate) fn lines() {
-    line_of(0, 1);
-    line_of(1, 5);
-    line_of(2, 25);
-    line_of(3, 125);
-    line_of(4, 625);
-    line_of(5, 3125);
-    line_of(6, 15625);
-    line_of(7, 78125);
-    line_of(8, 390625);
+pub(crate) fn lines(stdout: Stdout) -> io::Result<()> {
+    line_of(stdout, 0, 1)?;
+    line_of(stdout, 1, 5)?;
+    line_of(stdout, 2, 25)?;
+    line_of(stdout, 3, 125)?;
+    line_of(stdout, 4, 625)?;
+    line_of(stdout, 5, 3125)?;
+    line_of(stdout, 6, 15625)?;
+    line_of(stdout, 7, 78125)?;
+    line_of(stdout, 8, 390625)
 }

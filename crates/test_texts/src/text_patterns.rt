@@ -1,6 +1,8 @@
 // Table 5, patterns: each written into every room.
 use c_answer::answer::Answer;
 use sloefertand::patterns::{sloefertand_read_pattern, sloefertand_write_pattern};
+use std::io;
+use std::io::Stdout;
 use test_parts::digest::bytes;
 use test_parts::numbering::front_bytes;
 use test_parts::rows;
@@ -107,17 +109,17 @@ fn patterns_of(length: usize, count: usize) -> Tally {
     t
 }
 
-fn line_of(length: usize, count: usize) {
-    line(b"patterns ", length, patterns_of(length, count));
+fn line_of(stdout: Stdout, length: usize, count: usize) -> io::Result<()> {
+    line(stdout, b"patterns ", length, patterns_of(length, count))
 }
 
 // Every length, with four kinds of words.
-pub(crate) fn lines() {
-    line_of(0, 1);
-    line_of(1, 4);
-    line_of(2, 16);
-    line_of(3, 64);
-    line_of(4, 256);
-    line_of(5, 1024);
-    line_of(6, 4096);
+pub(crate) fn lines(stdout: Stdout) -> io::Result<()> {
+    line_of(stdout, 0, 1)?;
+    line_of(stdout, 1, 4)?;
+    line_of(stdout, 2, 16)?;
+    line_of(stdout, 3, 64)?;
+    line_of(stdout, 4, 256)?;
+    line_of(stdout, 5, 1024)?;
+    line_of(stdout, 6, 4096)
 }

@@ -3,6 +3,8 @@ use crate::{paired, single_bytes, text_lists, text_patterns};
 use c_answer::answer::Answer;
 use check::same;
 use sloefertand::patterns::{sloefertand_read_pattern, sloefertand_write_pattern};
+use std::io;
+use std::io::Stdout;
 use test_parts::digest::words;
 use test_parts::numbering::front;
 use test_parts::rows;
@@ -102,27 +104,27 @@ fn texts_of(length: usize, count: usize) -> Tally {
     t
 }
 
-fn line_of(length: usize, count: usize) {
-    line(b"texts ", length, texts_of(length, count));
+fn line_of(stdout: Stdout, length: usize, count: usize) -> io::Result<()> {
+    line(stdout, b"texts ", length, texts_of(length, count))
 }
 
 // Every length, with five kinds of bytes.
-fn lines() {
-    line_of(0, 1);
-    line_of(1, 5);
-    line_of(2, 25);
-    line_of(3, 125);
-    line_of(4, 625);
-    line_of(5, 3125);
-    line_of(6, 15625);
-    line_of(7, 78125);
-    line_of(8, 390625);
+fn lines(stdout: Stdout) -> io::Result<()> {
+    line_of(stdout, 0, 1)?;
+    line_of(stdout, 1, 5)?;
+    line_of(stdout, 2, 25)?;
+    line_of(stdout, 3, 125)?;
+    line_of(stdout, 4, 625)?;
+    line_of(stdout, 5, 3125)?;
+    line_of(stdout, 6, 15625)?;
+    line_of(stdout, 7, 78125)?;
+    line_of(stdout, 8, 390625)
 }
 
-pub(crate) fn table() {
-    single_bytes::lines();
-    lines();
-    text_lists::lines();
-    text_patterns::lines();
-    paired::lines();
+pub(crate) fn table(stdout: Stdout) -> io::Result<()> {
+    single_bytes::lines(stdout)?;
+    lines(stdout)?;
+    text_lists::lines(stdout)?;
+    text_patterns::lines(stdout)?;
+    paired::lines(stdout)
 }

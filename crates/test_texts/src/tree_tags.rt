@@ -1,5 +1,7 @@
 // Table 8: trees written as nested tags, and tables that are refused.
 use sloefertand::trees::sloefertand_write_tree;
+use std::io;
+use std::io::Stdout;
 use test_parts::answers::{code, show_answer};
 use test_parts::digest::bytes;
 use test_parts::numbering::{front, words_of};
@@ -118,67 +120,68 @@ fn tables(part: usize, n: usize, count: usize) -> Sums {
     s
 }
 
-fn line(name: &[u8], part: usize, n: usize, count: usize) {
-    show_sums(name, n, tables(part, n, count));
+fn line(stdout: Stdout, name: &[u8], part: usize, n: usize, count: usize) -> io::Result<()> {
+    show_sums(stdout, name, n, tables(part, n, count))
 }
 
 // A tree's line: all of the buffer, and the answer.
-fn show(name: &[u8], t: &[u16], out: &mut [u8]) {
+fn show(stdout: Stdout, name: &[u8], t: &[u16], out: &mut [u8]) -> io::Result<()> {
     let a = sloefertand_write_tree(t, out);
-    text(name);
-    text(out);
-    text(b" ");
-    show_answer(code(a));
+    text(stdout, name)?;
+    text(stdout, out)?;
+    text(stdout, b" ")?;
+    show_answer(stdout, code(a))
 }
 
 // The line of numbered tree k of n nodes.
-fn show_tree(name: &[u8], kinds: usize, n: usize, k: usize) {
+fn show_tree(stdout: Stdout, name: &[u8], kinds: usize, n: usize, k: usize) -> io::Result<()> {
     let mut t = [0u16; 10];
     let mut out = [b'.'; SHOWN_ROOM];
     numbered(k, kinds, n, &mut t);
-    show(name, front(&t, words_of(n)), &mut out);
+    show(stdout, name, front(&t, words_of(n)), &mut out)
 }
 
 // The lines of every one.
-fn show_trees(name: &[u8], kinds: usize, n: usize, count: usize) {
+fn show_trees(stdout: Stdout, name: &[u8], kinds: usize, n: usize, count: usize) -> io::Result<()> {
     let mut k = 0;
     while k < count {
-        show_tree(name, kinds, n, k);
+        show_tree(stdout, name, kinds, n, k)?;
         k += 1;
     }
+    Ok(())
 }
 
-pub(crate) fn table() {
-    show_trees(b"shape ", SHAPES, 1, 1);
-    show_trees(b"shape ", SHAPES, 2, 1);
-    show_trees(b"shape ", SHAPES, 3, 2);
-    show_trees(b"shape ", SHAPES, 4, 6);
-    show_trees(b"width ", WIDTHS, 1, 10);
-    line(b"trees ", TREES, 1, 3);
-    line(b"trees ", TREES, 2, 9);
-    line(b"trees ", TREES, 3, 54);
-    line(b"trees ", TREES, 4, 486);
-    line(b"trees ", TREES, 5, 5832);
-    line(b"widths ", WIDTHS, 1, 10);
-    line(b"widths ", WIDTHS, 2, 100);
-    line(b"widths ", WIDTHS, 3, 2000);
-    line(b"words ", WORDS, 0, ROOMS);
-    line(b"words ", WORDS, 1, 4 * ROOMS);
-    line(b"words ", WORDS, 2, 16 * ROOMS);
-    line(b"words ", WORDS, 3, 64 * ROOMS);
-    line(b"words ", WORDS, 4, 256 * ROOMS);
-    line(b"words ", WORDS, 5, 1024 * ROOMS);
-    line(b"words ", WORDS, 6, 4096 * ROOMS);
-    line(b"large ", LARGE, 0, 8);
-    line(b"large ", LARGE, 1, 8);
-    line(b"large ", LARGE, 2, 8);
-    line(b"large ", LARGE, 3, 8);
-    line(b"large ", LARGE, 4, 8);
-    line(b"large ", LARGE, 5, 8);
-    line(b"damaged ", DAMAGED, 0, 25);
-    line(b"damaged ", DAMAGED, 1, 25);
-    line(b"damaged ", DAMAGED, 2047, 25);
-    line(b"damaged ", DAMAGED, 2048, 25);
-    line(b"damaged ", DAMAGED, 2049, 25);
-    line(b"damaged ", DAMAGED, 2050, 25);
+pub(crate) fn table(stdout: Stdout) -> io::Result<()> {
+    show_trees(stdout, b"shape ", SHAPES, 1, 1)?;
+    show_trees(stdout, b"shape ", SHAPES, 2, 1)?;
+    show_trees(stdout, b"shape ", SHAPES, 3, 2)?;
+    show_trees(stdout, b"shape ", SHAPES, 4, 6)?;
+    show_trees(stdout, b"width ", WIDTHS, 1, 10)?;
+    line(stdout, b"trees ", TREES, 1, 3)?;
+    line(stdout, b"trees ", TREES, 2, 9)?;
+    line(stdout, b"trees ", TREES, 3, 54)?;
+    line(stdout, b"trees ", TREES, 4, 486)?;
+    line(stdout, b"trees ", TREES, 5, 5832)?;
+    line(stdout, b"widths ", WIDTHS, 1, 10)?;
+    line(stdout, b"widths ", WIDTHS, 2, 100)?;
+    line(stdout, b"widths ", WIDTHS, 3, 2000)?;
+    line(stdout, b"words ", WORDS, 0, ROOMS)?;
+    line(stdout, b"words ", WORDS, 1, 4 * ROOMS)?;
+    line(stdout, b"words ", WORDS, 2, 16 * ROOMS)?;
+    line(stdout, b"words ", WORDS, 3, 64 * ROOMS)?;
+    line(stdout, b"words ", WORDS, 4, 256 * ROOMS)?;
+    line(stdout, b"words ", WORDS, 5, 1024 * ROOMS)?;
+    line(stdout, b"words ", WORDS, 6, 4096 * ROOMS)?;
+    line(stdout, b"large ", LARGE, 0, 8)?;
+    line(stdout, b"large ", LARGE, 1, 8)?;
+    line(stdout, b"large ", LARGE, 2, 8)?;
+    line(stdout, b"large ", LARGE, 3, 8)?;
+    line(stdout, b"large ", LARGE, 4, 8)?;
+    line(stdout, b"large ", LARGE, 5, 8)?;
+    line(stdout, b"damaged ", DAMAGED, 0, 25)?;
+    line(stdout, b"damaged ", DAMAGED, 1, 25)?;
+    line(stdout, b"damaged ", DAMAGED, 2047, 25)?;
+    line(stdout, b"damaged ", DAMAGED, 2048, 25)?;
+    line(stdout, b"damaged ", DAMAGED, 2049, 25)?;
+    line(stdout, b"damaged ", DAMAGED, 2050, 25)
 }

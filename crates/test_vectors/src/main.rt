@@ -8,9 +8,10 @@ mod numbers;
 mod script;
 mod show;
 
-ghost use Rattle.std.specs.Prelude.{◌≡◌, length};
+ghost use Rattle.std.specs.Prelude.{◌≡◌, ◌≤◌, length, IfOk};
 
-use libc::STDIN_FILENO;
+use std::io;
+use std::io::{Read, Stdin};
 
 // Room for the script.
 fn input_room() -> [u8; 262144]
@@ -19,8 +20,24 @@ fn input_room() -> [u8; 262144]
     [0; 262144]
 }
 
-fn main() {
+// Reads until the input ends or there is no more room; how many bytes came.
+fn read_input(stdin: Stdin, input: &mut [u8]) -> io::Result<usize>
+    ensures { IfOk result (λ n. n ≤ length input.new) }
+{
+    let mut reader = stdin;
+    let mut n = 0;
+    while n < input.len() {
+        let more = reader.read(&mut input[n..])?;
+        if more == 0 {
+            return Ok(n);
+        }
+        n += more;
+    }
+    Ok(n)
+}
+
+fn main(rt: HostRuntime) -> io::Result<()> {
     let mut input = input_room();
-    let n = io::read_full(STDIN_FILENO, &mut input);
-    script::run(&input[0..n]);
+    let n = read_input(rt.stdin(), &mut input)?;
+    script::run(rt.stdout(), &input[0..n])
 }

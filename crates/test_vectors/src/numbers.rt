@@ -11,7 +11,7 @@ fn values_room() -> [u16; 69632]
 }
 
 // How far a line is read: the numbers written, where the last few that stand together begin, the number at hand, and whether it says how many times.
-#[derive(Drop)]
+#[derive(Clone, Copy)]
 struct Reading {
     count: usize,
     from: usize,

@@ -5,9 +5,11 @@ use crate::calls::Counts;
 use crate::numbers::{bytes, number, put_byte, words};
 use crate::{calls, identities, show};
 use check::same;
+use std::io;
+use std::io::Stdout;
 
 // How much of each table is in use, and the three numbers.
-#[derive(Drop)]
+#[derive(Clone, Copy)]
 struct Sizes {
     r: usize,
     p: usize,
@@ -160,30 +162,36 @@ fn next(line: &[u8], n: u32, marks: usize) -> u32 {
 }
 
 // Prints a heading as it stands, or shows a table that a call can change.
-fn reveal(line: &[u8], t: &[u16], m: &[u8], y: &[u8], i: &[u32], s: Sizes) {
+fn reveal(
+    stdout: Stdout,
+    line: &[u8],
+    t: &[u16],
+    m: &[u8],
+    y: &[u8],
+    i: &[u32],
+    s: Sizes,
+) -> io::Result<()> {
     if begins(line, b':') {
-        show::heading(rest(line));
-        return;
+        return show::heading(stdout, rest(line));
     }
     if same(line, b"=t") {
-        show::table(b"  t", front(t, s.t));
-        return;
+        return show::table(stdout, b"  t", front(t, s.t));
     }
     if same(line, b"=m") {
-        show::row(b"  m", show::front(m, s.m));
-        return;
+        return show::row(stdout, b"  m", show::front(m, s.m));
     }
     if same(line, b"=y") {
-        show::row(b"  y", show::front(y, s.y));
-        return;
+        return show::row(stdout, b"  y", show::front(y, s.y));
     }
     if same(line, b"=i") {
-        show::identities(b"  i", front_identities(i, s.i));
+        show::identities(stdout, b"  i", front_identities(i, s.i))?;
     }
+    Ok(())
 }
 
 // A check, a plain reading, a verdict, another shop's witness or a plan.
 fn ask(
+    stdout: Stdout,
     name: &[u8],
     r: &[u16],
     p: &[u16],
@@ -192,16 +200,17 @@ fn ask(
     y: &mut [u8],
     u: usize,
     v: usize,
-) {
-    calls::check(name, r, x, u, v);
-    calls::read_plain(name, r, x, y);
-    calls::judge(name, r, p, x, t);
-    calls::evidence(name, r, p, x, t);
-    calls::plan(name, x, t, u, v);
+) -> io::Result<()> {
+    calls::check(stdout, name, r, x, u, v)?;
+    calls::read_plain(stdout, name, r, x, y)?;
+    calls::judge(stdout, name, r, p, x, t)?;
+    calls::evidence(stdout, name, r, p, x, t)?;
+    calls::plan(stdout, name, x, t, u, v)
 }
 
 // A line, a pattern's or a tree's text, or a printed plan.
 fn spell(
+    stdout: Stdout,
     name: &[u8],
     r: &[u16],
     x: &[u16],
@@ -210,21 +219,30 @@ fn spell(
     m: &[u8],
     y: &mut [u8],
     u: usize,
-) {
-    calls::spell(name, x, t, m, u, y);
-    calls::pattern(name, l, r, t, m, y);
-    calls::tree(name, x, t, m, y);
-    calls::print(name, m, y);
+) -> io::Result<()> {
+    calls::spell(stdout, name, x, t, m, u, y)?;
+    calls::pattern(stdout, name, l, r, t, m, y)?;
+    calls::tree(stdout, name, x, t, m, y)?;
+    calls::print(stdout, name, m, y)
 }
 
 // A mending, whose rows are x and whose list is t, or a compaction; the numbers u and n after it.
-fn tidied(name: &[u8], x: &[u16], t: &mut [u16], m: &mut [u8], i: &mut [u32], c: Counts) -> Counts {
-    calls::mend(name, x, m, i, t, c);
-    calls::compact(name, t, m, i, c)
+fn tidied(
+    stdout: Stdout,
+    name: &[u8],
+    x: &[u16],
+    t: &mut [u16],
+    m: &mut [u8],
+    i: &mut [u32],
+    c: Counts,
+) -> io::Result<Counts> {
+    calls::mend(stdout, name, x, m, i, t, c)?;
+    calls::compact(stdout, name, t, m, i, c)
 }
 
 // A document's check, a read, an update, a mending or a compaction; the numbers u and n after it.
 fn treat(
+    stdout: Stdout,
     name: &[u8],
     r: &[u16],
     p: &[u16],
@@ -234,15 +252,16 @@ fn treat(
     y: &mut [u8],
     i: &mut [u32],
     c: Counts,
-) -> Counts {
-    calls::read(name, r, t, m, i, y, c);
-    calls::delete(name, p, t, m, i, c);
-    let after = calls::insert(name, p, x, t, m, i, c);
-    tidied(name, x, t, m, i, after)
+) -> io::Result<Counts> {
+    calls::read(stdout, name, r, t, m, i, y, c)?;
+    calls::delete(stdout, name, p, t, m, i, c)?;
+    let after = calls::insert(stdout, name, p, x, t, m, i, c)?;
+    tidied(stdout, name, x, t, m, i, after)
 }
 
 // The call of this name on the tables as far as they are in use; the numbers u and n after it.
 fn call(
+    stdout: Stdout,
     name: &[u8],
     r: &[u16],
     p: &[u16],
@@ -254,18 +273,19 @@ fn call(
     i: &mut [u32],
     c: Counts,
     v: usize,
-) -> Counts {
-    show::text(b"  ");
-    show::text(name);
-    ask(name, r, p, x, t, y, c.used, v);
-    spell(name, r, x, t, l, m, y, c.used);
-    let after = treat(name, r, p, x, t, m, y, i, c);
-    show::text(b"\n");
-    after
+) -> io::Result<Counts> {
+    show::text(stdout, b"  ")?;
+    show::text(stdout, name)?;
+    ask(stdout, name, r, p, x, t, y, c.used, v)?;
+    spell(stdout, name, r, x, t, l, m, y, c.used)?;
+    let after = treat(stdout, name, r, p, x, t, m, y, i, c)?;
+    show::text(stdout, b"\n")?;
+    Ok(after)
 }
 
 // The same where a line asks for it.
 fn called(
+    stdout: Stdout,
     line: &[u8],
     r: &[u16],
     p: &[u16],
@@ -276,7 +296,7 @@ fn called(
     y: &mut [u8],
     i: &mut [u32],
     s: Sizes,
-) -> Counts {
+) -> io::Result<Counts> {
     let words = s.t;
     let marks = s.m;
     let bytes = s.y;
@@ -286,21 +306,22 @@ fn called(
         next: s.n,
     };
     if !begins(line, b'!') {
-        return c;
+        return Ok(c);
     }
     if t.len() < words {
-        return c;
+        return Ok(c);
     }
     if m.len() < marks {
-        return c;
+        return Ok(c);
     }
     if y.len() < bytes {
-        return c;
+        return Ok(c);
     }
     if i.len() < names {
-        return c;
+        return Ok(c);
     }
     call(
+        stdout,
         rest(line),
         front(r, s.r),
         front(p, s.p),
@@ -385,6 +406,7 @@ fn refilled(
 
 // Shows a table or calls, where a line asks for it; the numbers u and n after it.
 fn shown(
+    stdout: Stdout,
     line: &[u8],
     r: &[u16],
     p: &[u16],
@@ -395,13 +417,14 @@ fn shown(
     y: &mut [u8],
     i: &mut [u32],
     s: Sizes,
-) -> Counts {
-    reveal(line, t, m, y, i, s);
-    called(line, r, p, x, t, l, m, y, i, s)
+) -> io::Result<Counts> {
+    reveal(stdout, line, t, m, y, i, s)?;
+    called(stdout, line, r, p, x, t, l, m, y, i, s)
 }
 
 // What a line asks for. No two of these begin with the same byte.
 fn obeyed(
+    stdout: Stdout,
     line: &[u8],
     r: &mut [u16],
     p: &mut [u16],
@@ -412,9 +435,9 @@ fn obeyed(
     y: &mut [u8],
     i: &mut [u32],
     s: Sizes,
-) -> Sizes {
-    let c = shown(line, r, p, x, t, l, m, y, i, s);
-    refilled(line, r, p, x, t, l, m, y, i, s, c)
+) -> io::Result<Sizes> {
+    let c = shown(stdout, line, r, p, x, t, l, m, y, i, s)?;
+    Ok(refilled(line, r, p, x, t, l, m, y, i, s, c))
 }
 
 // The line that ends at this place, empty where none does.
@@ -443,6 +466,7 @@ fn start(input: &[u8], from: usize, i: usize) -> usize {
 
 // Every line that ends in a line feed.
 fn each(
+    stdout: Stdout,
     input: &[u8],
     r: &mut [u16],
     p: &mut [u16],
@@ -452,7 +476,7 @@ fn each(
     m: &mut [u8],
     y: &mut [u8],
     i: &mut [u32],
-) {
+) -> io::Result<()> {
     let mut s = Sizes {
         r: 0,
         p: 0,
@@ -471,12 +495,13 @@ fn each(
     while k < input.len() {
         let at = k;
         k += 1;
-        s = obeyed(line_at(input, from, at), r, p, x, t, l, m, y, i, s);
+        s = obeyed(stdout, line_at(input, from, at), r, p, x, t, l, m, y, i, s)?;
         from = start(input, from, at);
     }
+    Ok(())
 }
 
-pub(crate) fn run(input: &[u8]) {
+pub(crate) fn run(stdout: Stdout, input: &[u8]) -> io::Result<()> {
     let mut r = word_room();
     let mut p = word_room();
     let mut x = word_room();
@@ -486,6 +511,6 @@ pub(crate) fn run(input: &[u8]) {
     let mut y = byte_room();
     let mut i = identity_room();
     each(
-        input, &mut r, &mut p, &mut x, &mut t, &mut l, &mut m, &mut y, &mut i,
-    );
+        stdout, input, &mut r, &mut p, &mut x, &mut t, &mut l, &mut m, &mut y, &mut i,
+    )
 }

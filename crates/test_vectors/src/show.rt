@@ -1,41 +1,42 @@
 // What is printed: an answer, a table, a row.
 use c_answer::answer::Answer;
-use libc::STDOUT_FILENO;
+use std::io;
+use std::io::Stdout;
 use tables::words::{byte, word};
 
-pub(crate) fn text(s: &[u8]) {
-    io::write_all(STDOUT_FILENO, s);
+pub(crate) fn text(stdout: Stdout, s: &[u8]) -> io::Result<()> {
+    stdout.write_all(s)
 }
 
-pub(crate) fn heading(s: &[u8]) {
-    text(s);
-    text(b"\n");
+pub(crate) fn heading(stdout: Stdout, s: &[u8]) -> io::Result<()> {
+    text(stdout, s)?;
+    text(stdout, b"\n")
 }
 
 // A space and a number.
-fn number(n: usize) {
-    text(b" ");
-    io::print_decimal(STDOUT_FILENO, n as u64);
+fn number(stdout: Stdout, n: usize) -> io::Result<()> {
+    text(stdout, b" ")?;
+    stdout.print(n)
 }
 
 // The first so many values of an answer.
-fn values(a: Answer, count: usize) {
+fn values(stdout: Stdout, a: Answer, count: usize) -> io::Result<()> {
     if count == 0 {
-        return;
+        return Ok(());
     }
-    number(a.first);
+    number(stdout, a.first)?;
     if count == 1 {
-        return;
+        return Ok(());
     }
-    number(a.second);
+    number(stdout, a.second)?;
     if count == 2 {
-        return;
+        return Ok(());
     }
-    number(a.third);
+    number(stdout, a.third)?;
     if count == 3 {
-        return;
+        return Ok(());
     }
-    number(a.fourth);
+    number(stdout, a.fourth)
 }
 
 // The bytes of a row that are in use.
@@ -47,47 +48,46 @@ pub(crate) fn front(m: &[u8], n: usize) -> &[u8] {
 }
 
 // What a call answered: its refusal, or its values.
-pub(crate) fn answer(a: Answer, count: usize) {
+pub(crate) fn answer(stdout: Stdout, a: Answer, count: usize) -> io::Result<()> {
     if a.refusal == 0 {
-        values(a, count);
-        return;
+        return values(stdout, a, count);
     }
-    text(b" refused");
-    number(a.refusal);
-    text(b" table");
-    number(a.table);
-    text(b" place");
-    number(a.place);
+    text(stdout, b" refused")?;
+    number(stdout, a.refusal)?;
+    text(stdout, b" table")?;
+    number(stdout, a.table)?;
+    text(stdout, b" place")?;
+    number(stdout, a.place)
 }
 
-fn word_at(t: &[u16], i: usize) {
-    number(word(t, i));
+fn word_at(stdout: Stdout, t: &[u16], i: usize) -> io::Result<()> {
+    number(stdout, word(t, i))
 }
 
 // The words of a table.
-pub(crate) fn table(name: &[u8], t: &[u16]) {
-    text(name);
+pub(crate) fn table(stdout: Stdout, name: &[u8], t: &[u16]) -> io::Result<()> {
+    text(stdout, name)?;
     let mut i = 0;
     while i < t.len() {
-        word_at(t, i);
+        word_at(stdout, t, i)?;
         i += 1;
     }
-    text(b"\n");
+    text(stdout, b"\n")
 }
 
-fn byte_at(m: &[u8], i: usize) {
-    number(byte(m, i));
+fn byte_at(stdout: Stdout, m: &[u8], i: usize) -> io::Result<()> {
+    number(stdout, byte(m, i))
 }
 
 // The bytes of a row.
-pub(crate) fn row(name: &[u8], m: &[u8]) {
-    text(name);
+pub(crate) fn row(stdout: Stdout, name: &[u8], m: &[u8]) -> io::Result<()> {
+    text(stdout, name)?;
     let mut i = 0;
     while i < m.len() {
-        byte_at(m, i);
+        byte_at(stdout, m, i)?;
         i += 1;
     }
-    text(b"\n");
+    text(stdout, b"\n")
 }
 
 // An identity as a number.
@@ -95,19 +95,20 @@ fn wide(id: u32) -> usize {
     id as usize
 }
 
-fn identity_at(i: &[u32], k: usize) {
+fn identity_at(stdout: Stdout, i: &[u32], k: usize) -> io::Result<()> {
     if k < i.len() {
-        number(wide(i[k]));
+        number(stdout, wide(i[k]))?;
     }
+    Ok(())
 }
 
 // The identities of a row.
-pub(crate) fn identities(name: &[u8], i: &[u32]) {
-    text(name);
+pub(crate) fn identities(stdout: Stdout, name: &[u8], i: &[u32]) -> io::Result<()> {
+    text(stdout, name)?;
     let mut k = 0;
     while k < i.len() {
-        identity_at(i, k);
+        identity_at(stdout, i, k)?;
         k += 1;
     }
-    text(b"\n");
+    text(stdout, b"\n")
 }

@@ -1,0 +1,46 @@
+// Whether a read r and an update at p conflict.
+ghost use Rattle.conflict.specs.Conflict.{delete, insert};
+ghost use Rattle.verdict.specs.Promise.{NodeVerdict};
+ghost use Rattle.verdict_deep.specs.Promise.{DeepVerdict};
+ghost use Rattle.c_answer.specs.Answers.{Told};
+ghost use Rattle.c_numbers.specs.Numbers.{of_verdict, of_deeply};
+
+use c_answer::answer::Answer;
+use sloefertand::verdicts;
+
+// A read and a delete. First: the nodes of the smallest witness, which is written; 0 for no conflict.
+#[unsafe(no_mangle)]
+pub extern "C" fn sloefertand_delete_verdict(r: &[u16], p: &[u16], out: &mut [u16]) -> Answer
+    ensures { Told of_verdict (NodeVerdict r.now (delete p.now) out.old out.new) result }
+{
+    verdicts::sloefertand_delete_verdict(r, p, out)
+}
+
+// A read and an insert of the tree x. First: as for a delete.
+#[unsafe(no_mangle)]
+pub extern "C" fn sloefertand_insert_verdict(
+    r: &[u16],
+    p: &[u16],
+    x: &[u16],
+    out: &mut [u16],
+) -> Answer
+    ensures { Told of_verdict (NodeVerdict r.now (insert p.now x.now) out.old out.new) result }
+{
+    verdicts::sloefertand_insert_verdict(r, p, x, out)
+}
+
+// A read and a delete, at and below the read nodes too. First: 1 for yes, 0 for no.
+#[unsafe(no_mangle)]
+pub extern "C" fn sloefertand_deep_delete_verdict(r: &[u16], p: &[u16]) -> Answer
+    ensures { Told of_deeply (DeepVerdict r.now (delete p.now)) result }
+{
+    verdicts::sloefertand_deep_delete_verdict(r, p)
+}
+
+// A read and an insert of the tree x, at and below the read nodes too. First: 1 for yes, 0 for no.
+#[unsafe(no_mangle)]
+pub extern "C" fn sloefertand_deep_insert_verdict(r: &[u16], p: &[u16], x: &[u16]) -> Answer
+    ensures { Told of_deeply (DeepVerdict r.now (insert p.now x.now)) result }
+{
+    verdicts::sloefertand_deep_insert_verdict(r, p, x)
+}
