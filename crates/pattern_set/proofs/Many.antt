@@ -11,7 +11,6 @@ use Rattle.pattern_set.specs.Sets.{bit, moved, next_set, word_steps, Word, Words
 use Rattle.pattern_set.proofs.Carried.{carried}
 use Rattle.pattern_set.proofs.Bits.{same_bits, behind_low, behind_high}
 use Rattle.pattern_set.proofs.Words.{first_word, first_bit}
-use Rattle.pattern_set.proofs.Carried.{carried}
 
 module _ (take stay above : ℕ → Bool) (from : ℕ) {g s a : ℕ → Bool} (takes : (i : ℕ) → i < word_steps → g i ≡ take (from + i)) (stays : (i : ℕ) → i < word_steps → s i ≡ stay (from + i)) (stood : (i : ℕ) → i < word_steps → a i ≡ above (from + i)) where
   moved_on : (c first : Bool) → first ≡ moved c above from → (i : ℕ) → i < word_steps → moved first a i ≡ moved c above (from + i)
