@@ -8,6 +8,7 @@ use native.Mathlib.Omega.{arith}
 use lib.ListN.{get_or}
 use mir.Val.{bool_byte}
 use Rattle.pattern_set.specs.Sets.{bit, moved, next_set, word_steps, Word, Words}
+use Rattle.pattern_set.proofs.Carried.{carried}
 use Rattle.pattern_set.proofs.Bits.{same_bits, behind_low, behind_high}
 use Rattle.pattern_set.proofs.Words.{first_word, first_bit}
 
@@ -27,11 +28,6 @@ module _ (take stay above : ℕ → Bool) (from : ℕ) {g s a : ℕ → Bool} (t
 pub word_carry : {above : ℕ → Bool} {from a : ℕ} → Word above from a → (c : Bool) → bit a 63 ≡ moved c above (from + word_steps)
 unfolding moved
 word_carry {above} {from} stood c = stood.at 63 (omega arith) ∙ ap (moved c above) (sym (add-suc from 63))
-
--- what moves into word k
-unfoldable pub carried : Bool → List ℕ → ℕ → Bool
-carried c words zero = c
-carried c words (suc k) = bit (get_or words k 0) 63
 
 module _ {take stay above : ℕ → Bool} (count : ℕ) {gs ss us : List ℕ} (takes : Words take count gs) (stays : Words stay count ss) (stood : Words above count us) (c : Bool) where
   carried-moved : (k : ℕ) → k < count → carried c us k ≡ moved c above (word_steps * k)

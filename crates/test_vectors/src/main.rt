@@ -14,10 +14,10 @@ use std::io;
 use std::io::{Read, Stdin};
 
 // Room for the script.
-fn input_room() -> [u8; 262144]
-    ensures { length result ≡ 262144 }
+fn input_room() -> [u8; 131072]
+    ensures { length result ≡ 131072 }
 {
-    [0; 262144]
+    [0; 131072]
 }
 
 // Reads until the input ends or there is no more room; how many bytes came.

@@ -1,4 +1,5 @@
 -- Laws of names.
+pub mod Table
 pub mod Rule
 pub mod Same
 pub mod Naming

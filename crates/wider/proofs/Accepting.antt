@@ -109,3 +109,5 @@ room_wider {r} {s} {u} {v} w a m n e h = go u v w.update e a.fine
     go : (u v : Update) → WiderUpdate u v → verdict_check r u m ≡ Fine → deep_check s v ≡ Fine → verdict_check s v n ≡ Fine
     go (delete p) (delete q) (deletes wider) e fine = rw (fine, same_room w.read wider m n (delete_room r p m e) h)
     go (insert p x) (insert q y) (inserts wider more) e fine = rw (fine, same_room w.read wider m n (insert_room r p m x e) h)
+    go (delete p) (insert q y) x6 e fine = elim x6 [ ]
+    go (insert p x) (delete q) x6 e fine = elim x6 [ ]

@@ -66,6 +66,8 @@ module _ {r s : List ℕ} (reads : Fit r) (wider_read : WiderPattern r s) where
   differs_wider {u = insert p x} {v = insert q y} fit fit' (inserts wider more) sound differs =
       of_gain s q y (pattern_wider wider_read reads.pattern) fit'.tree sound
       (gain_wider fit.fit.pattern.some wider fit.tree more (gain_of r p x reads.pattern fit.tree sound differs))
+  differs_wider {u = delete p} {v = insert q y} fit fit' x10 {d = d} sound differs = elim x10 [ ]
+  differs_wider {u = insert p x} {v = delete q} fit fit' x8 {d = d} sound differs = elim x8 [ ]
 
 wider_point : {u v : Update} → WiderUpdate u v → WiderPattern (pattern u) (pattern v)
 wider_point (deletes wider) = wider
