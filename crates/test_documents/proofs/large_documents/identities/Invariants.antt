@@ -1,0 +1,11 @@
+-- The loop ends: what is left of its range falls.
+use Prim.Native.Nat.{◌≤◌, ◌-◌}
+use mathlib.Core.Path.{◌≡◌}
+use lib.ListN.{length}
+use Rattle.test_documents.proofs.large_documents.identities.Given as goal
+
+abbrev pub invariant-loop-v : goal.invariant-loop-v
+invariant-loop-v l = (l.v ≤ 1024) × (length l.ids ≡ length l.initial.ids)
+
+abbrev pub decreases-loop-v : goal.decreases-loop-v
+decreases-loop-v l = 1024 - l.v

@@ -1,0 +1,9 @@
+-- The loop ends: what is left of its range falls.
+use Prim.Native.Nat.{◌≤◌, ◌-◌}
+use Rattle.test_small.proofs.damaged_evidence.deletes_alone.Given as goal
+
+abbrev pub invariant-loop-d : goal.invariant-loop-d
+invariant-loop-d l = l.d ≤ l.count
+
+abbrev pub decreases-loop-d : goal.decreases-loop-d
+decreases-loop-d l = l.count - l.d

@@ -1,0 +1,9 @@
+-- The loop ends: what is left of its range falls.
+use Prim.Native.Nat.{◌≤◌, ◌-◌}
+use Rattle.test_small.proofs.evidence.drawn.Given as goal
+
+abbrev pub invariant-loop-k : goal.invariant-loop-k
+invariant-loop-k l = l.k ≤ 552
+
+abbrev pub decreases-loop-k : goal.decreases-loop-k
+decreases-loop-k l = 552 - l.k

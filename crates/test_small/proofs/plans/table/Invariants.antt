@@ -1,0 +1,9 @@
+-- The loop ends: what is left of its range falls.
+use Prim.Native.Nat.{◌≤◌, ◌-◌}
+use Rattle.test_small.proofs.plans.table.Given as goal
+
+abbrev pub invariant-loop-n : goal.invariant-loop-n
+invariant-loop-n l = l.n ≤ 2000
+
+abbrev pub decreases-loop-n : goal.decreases-loop-n
+decreases-loop-n l = 2000 - l.n

@@ -1,0 +1,9 @@
+-- The loop ends: what is left of its range falls.
+use Prim.Native.Nat.{◌≤◌, ◌-◌}
+use Rattle.test_small.proofs.wider_plans.batches.Given as goal
+
+abbrev pub invariant-loop-n : goal.invariant-loop-n
+invariant-loop-n l = l.n ≤ 500
+
+abbrev pub decreases-loop-n : goal.decreases-loop-n
+decreases-loop-n l = 500 - l.n
