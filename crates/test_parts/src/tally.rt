@@ -5,7 +5,7 @@ use c_answer::answer::Answer;
 use std::io;
 use std::io::Stdout;
 
-#[derive(Drop)]
+#[derive(Clone, Copy)]
 pub struct Tally {
     pub answered: usize,
     pub back: usize,

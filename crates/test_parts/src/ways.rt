@@ -3,7 +3,7 @@ use crate::numbering::pair;
 use tables::words::{first_word, second_word};
 
 // Where the drawing of a pattern has come to: the last number, and the node on the way up.
-#[derive(Drop)]
+#[derive(Clone, Copy)]
 pub struct Way {
     pub state: usize,
     pub node: usize,
