@@ -5,7 +5,8 @@
 --   OtherLimits   installations with other limits: what is kept, and what an older one answers to a longer frame
 --   NeverSafer    reads and updates that are made wider: what conflicts still conflicts
 --   MarksMended   a mending: what it leaves, that it is the largest sound set, and what a second one does
-use Rattle.demands.specs.Demands.Names.{ℕ, suc, ◌+◌, ◌*◌, ◌<◌, ◌≤◌, ◌≡◌, true, List, [], ◌∷◌, ◌++◌, map, Perm, ◌⊎◌, ◌↔◌, ◌≢◌, length, get_or, set, tree_limit, digit_limit, axis, nodes, Bits16}
+use Rattle.std.specs.Prelude.{◌+◌, ◌*◌, ◌<◌, ◌≤◌, ◌≡◌, ◌∷◌, ◌++◌, ◌⊎◌, ◌↔◌, ◌≢◌}
+use Rattle.demands.specs.Demands.Names.{ℕ, suc, true, List, [], map, Perm, length, get_or, set, tree_limit, digit_limit, axis, nodes, Bits16}
 use Rattle.demands.specs.Demands.Names.{Pattern, Doc, present, Sound, Refusal, Fine, Refused, refuse, tree_check, count, Selects, copies, Document, documentOf, SoundDocument, whole_check}
 use Rattle.demands.specs.Demands.Names.{room_of, fits_in, dropped, compacted, SameIdentitiesBelow, delete_check, delete_refusal, Delete, Compact, Compacted, Deleted, AllDeletedBy, Compacts}
 use Rattle.demands.specs.Demands.Names.{ClosedBy, Update, delete, insert, Differs, Witness, Conflict, Smallest, Deep, verdict_check, deep_check, NodeVerdict, DeepVerdict, Verdict, Deeply}

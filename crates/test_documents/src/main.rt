@@ -5,7 +5,7 @@ mod documents;
 mod either_order;
 mod id_edges;
 mod id_orders;
-mod identities;
+mod identity_rows;
 mod large_documents;
 mod large_mends;
 mod long_reads;
@@ -20,6 +20,6 @@ fn main(rt: HostRuntime) -> io::Result<()> {
     small_documents::table(rt.stdout())?;
     either_order::table(rt.stdout())?;
     long_reads::table(rt.stdout())?;
-    identities::table(rt.stdout())?;
+    identity_rows::table(rt.stdout())?;
     mends::table(rt.stdout())
 }

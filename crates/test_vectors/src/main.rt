@@ -3,7 +3,7 @@
 #![tactic(auto)]
 
 mod calls;
-mod identities;
+mod identity_rows;
 mod numbers;
 mod script;
 mod show;

@@ -142,10 +142,10 @@ fn listed(line: &[u8], l: &mut [u8], n: usize) -> usize {
 // Fills table i: by its own line, or with 0, 1, 2 and so on where a line fills table m, one for each mark.
 fn named(line: &[u8], i: &mut [u32], n: usize, marks: usize) -> usize {
     if begins(line, b'm') {
-        return identities::counted(i, marks);
+        return identity_rows::counted(i, marks);
     }
     if begins(line, b'i') {
-        return identities::numbers(line, i);
+        return identity_rows::numbers(line, i);
     }
     n
 }
@@ -156,7 +156,7 @@ fn next(line: &[u8], n: u32, marks: usize) -> u32 {
         return (marks % 4294967296) as u32;
     }
     if begins(line, b'n') {
-        return identities::number(line);
+        return identity_rows::number(line);
     }
     n
 }

@@ -1,6 +1,6 @@
 -- The loop ends: what is left of its range falls.
 use Prim.Native.Nat.{◌≤◌, ◌-◌}
-use Rattle.test_documents.proofs.identities.rows_of.Given as goal
+use Rattle.test_documents.proofs.identity_rows.rows_of.Given as goal
 
 abbrev pub invariant-loop-k : goal.invariant-loop-k
 invariant-loop-k l = l.k ≤ l.count
