@@ -3,7 +3,7 @@ ghost use Rattle.std.specs.Prelude.{◌≡◌, length};
 
 use crate::calls::Counts;
 use crate::numbers::{bytes, number, put_byte, words};
-use crate::{calls, identities, show};
+use crate::{calls, identity_rows, show};
 use check::same;
 use std::io;
 use std::io::Stdout;
