@@ -1,4 +1,5 @@
 -- What the check of a frame says where it is fine: its steps are an accepted pattern and its nodes an accepted tree, so what it means is fit.
+use Rattle.std.specs.Prelude.{Ok, Err}
 use Prim.Native.Nat.{ℕ, ◌+◌, ◌*◌, ◌<◌, ◌≤◌}
 use mathlib.Core.Path.{◌≡◌, refl}
 use mathlib.Core.List.{List}
@@ -11,9 +12,7 @@ use lib.Seq.{get_or-take, get_or-drop}
 use borrow.Author.Tests.{ltb-true}
 use Rattle.tables.specs.Limits.{step_limit, tree_limit, word_limit}
 use Rattle.tables.specs.Words.{steps, Bits16}
-use Rattle.tables.specs.Checks.{pattern_check, tree_check}
-use Rattle.tables.specs.declared.refusal.Checked.{Checked}
-use Rattle.tables.specs.declared.refusal.Checked.TheVariants.{Fine, Refused}
+use Rattle.tables.specs.Checks.{pattern_check, tree_check, Checked, Fine}
 use Rattle.tables.proofs.Accepted.{never, held, then_first, then_second}
 use Rattle.tables.proofs.Soundness.{accepted_pattern, accepted_tree}
 use Rattle.order.specs.Fitting.{Fit, FitFrame}
@@ -24,12 +23,12 @@ use Rattle.batch_check.specs.Batches.{pattern_of, tree_of, update_of, meaning}
 
 -- steps and nodes that are refused nowhere in the batch are fine
 steps_are : (from : ℕ) (c : Checked) → in_steps from c ≡ Fine → c ≡ Fine
-steps_are from Fine e = refl
-steps_are from (Refused r) e = never refl e
+steps_are from (Ok tt) e = refl
+steps_are from (Err r) e = never refl e
 
 nodes_are : (from : ℕ) (c : Checked) → in_nodes from c ≡ Fine → c ≡ Fine
-nodes_are from Fine e = refl
-nodes_are from (Refused r) e = never refl e
+nodes_are from (Ok tt) e = refl
+nodes_are from (Err r) e = never refl e
 
 -- the words of a part are words of the batch, or 0
 pub part_words : (b : List ℕ) (from n : ℕ) → Bits16 b → Bits16 (part b from n)

@@ -8,8 +8,7 @@ use lib.Dec.{ltb, leb}
 use lib.ListN.{length}
 use borrow.Author.Tests.{ne_eqb, lt-ltb, le-ltb}
 use Rattle.tables.specs.Limits.{batch_limit}
-use Rattle.tables.specs.Checks.{◌then◌, test, refuse}
-use Rattle.tables.specs.declared.refusal.Checked.TheVariants.{Fine}
+use Rattle.tables.specs.Checks.{◌then◌, test, refuse, Fine}
 use Rattle.tables.proofs.Accepted.{then_first, then_second}
 use Rattle.tables.specs.Words.{Bits16}
 use Rattle.batch_parts.specs.Parts.{count}

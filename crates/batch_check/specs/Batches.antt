@@ -1,15 +1,12 @@
 -- A batch as a list of frames, and the order of its checks.
-use Rattle.std.specs.Prelude.{ℕ, zero, suc, ◌+◌, ◌*◌, cond, List, [], ◌∷◌, eqb, ltb, leb, length}
+use Rattle.tables.specs.declared.refusal.Refusal.{Refusal}
+use Rattle.std.specs.Prelude.{ℕ, zero, suc, ◌+◌, ◌*◌, cond, List, [], ◌∷◌, eqb, ltb, leb, length, Result, Ok, Err}
 use Rattle.tables.specs.Limits.{batch_limit}
-use Rattle.tables.specs.Checks.{◌then◌, test, refuse, output_check}
-use Rattle.tables.specs.declared.refusal.Checked.{Checked}
-use Rattle.tables.specs.declared.refusal.Checked.TheVariants as checked
+use Rattle.tables.specs.Checks.{◌then◌, test, refuse, output_check, Checked, Fine}
 use Rattle.conflict.specs.Conflict.{Update, delete, insert}
 use Rattle.order.specs.Frames.{Frame, read, update}
 use Rattle.batch_parts.specs.Parts.{part, count}
 use Rattle.batch_frame.specs.Frames.{kind, tree_at, end_of, frame_check}
-use Rattle.batch_check.specs.declared.Counted.{Counted}
-use Rattle.batch_check.specs.declared.Counted.TheVariants.{Refused, Frames}
 
 -- the steps of the frame at a place, and the nodes of an insert, as parts of the batch
 abbrev pub pattern_of : List ℕ → ℕ → List ℕ
@@ -36,8 +33,8 @@ batch_of b = frames_from b 0 (length b)
 
 -- each frame from a place on, the first of them frame n
 unfoldable pub check_from : List ℕ → ℕ → ℕ → ℕ → Checked
-check_from b n at zero = checked.Fine
-check_from b n at (suc most) = cond (ltb at (length b)) (frame_check b n at then check_from b (suc n) (end_of b at) most) checked.Fine
+check_from b n at zero = Fine
+check_from b n at (suc most) = cond (ltb at (length b)) (frame_check b n at then check_from b (suc n) (end_of b at) most) Fine
 
 -- 10 for words, whose place is the first too many; then each frame from the front
 unfoldable pub batch_check : List ℕ → Checked
@@ -48,6 +45,6 @@ unfoldable pub plan_check : List ℕ → ℕ → Checked
 plan_check b words = batch_check b then output_check (length (batch_of b)) words
 
 -- a check's refusal, or so many frames
-abbrev pub counted_of : Checked → ℕ → Counted
-counted_of checked.Fine n = Frames n
-counted_of (checked.Refused r) n = Refused r
+abbrev pub counted_of : Checked → ℕ → Result ℕ Refusal
+counted_of (Ok tt) n = Ok n
+counted_of (Err r) n = Err r

@@ -9,8 +9,7 @@ use lib.Dec.{eqb, ltb}
 use lib.ListN.{length}
 use borrow.Author.Tests.{eqb-true, ltb-true}
 use Rattle.tables.specs.Limits.{step_limit, tree_limit, frame_limit}
-use Rattle.tables.specs.Checks.{◌then◌, test, refuse}
-use Rattle.tables.specs.declared.refusal.Checked.TheVariants.{Fine}
+use Rattle.tables.specs.Checks.{◌then◌, test, refuse, Fine}
 use Rattle.tables.proofs.Accepted.{held, then_first, then_second}
 use Rattle.tables.proofs.Soundness.{either_of}
 use Rattle.batch_parts.specs.Parts.{count, count_check, steps_check, nodes_check}

@@ -1,4 +1,5 @@
 -- The branches of the code, held against those of the definitions.
+use Rattle.std.specs.Prelude.{Ok, Err}
 use Prim.Native.Nat.{ℕ, ◌+◌, ◌*◌, ◌<◌, ◌≤◌}
 use mathlib.Core.Path.{◌≡◌, refl, sym, ◌∙◌, ap}
 use mathlib.Core.Bool.{Bool, true, false, not, false≢true}
@@ -10,16 +11,13 @@ use lib.ListN.{length}
 use borrow.Author.Tests.{ne_eqb, lt-ltb, le-ltb}
 use Rattle.tables.specs.Limits.{frame_limit}
 use Rattle.tables.specs.declared.refusal.Refusal.{Refusal}
-use Rattle.tables.specs.declared.refusal.Checked.{Checked}
-use Rattle.tables.specs.declared.refusal.Checked.TheVariants.{Fine, Refused}
-use Rattle.tables.specs.Checks.{◌then◌, test, refuse}
+use Rattle.tables.specs.Checks.{◌then◌, test, refuse, Checked, Fine}
 use Rattle.tables.proofs.Outside.{outside}
 use Rattle.tables.proofs.Tests.{first_passed, first_failed}
 use Rattle.tables.proofs.Accepted.{held, then_first, then_second}
 use Rattle.batch_parts.specs.Parts.{count, steps_check, nodes_check}
 use Rattle.batch_frame.specs.Frames.{kind, kind_right, rest_check, frame_check, nodes_of, end_of, frame_of, frame_at}
 use Rattle.outcomes.specs.declared.frames.Extent.{Extent}
-use Rattle.outcomes.specs.declared.frames.Framed.TheVariants as framed
 
 pub kind_one : (k : ℕ) → k ≡ 1 → true ≡ kind_right k
 unfolding kind_right
@@ -69,7 +67,7 @@ module _ (b : List ℕ) (n at : ℕ) where
     module _ (within : n < frame_limit) {answer : Checked} where
       pub frame_kind : answer ≡ refuse 8 6 at → not flag ≡ true → answer ≡ frame_check b n at
       unfolding frame_check
-      frame_kind a h = rw (lt-ltb n frame_limit within) (a ∙ sym (first_failed _ (right ∙ ap kind_right is) _ _ _ h))
+      frame_kind a h = rw (lt-ltb n frame_limit within) (a ∙ sym (first_failed _ (right ∙ ap kind_right is) _ h))
 
       pub frame_body : answer ≡ (steps_check b (at + 1) then rest_check b k at) → not flag ≡ false → answer ≡ frame_check b n at
       unfolding frame_check
@@ -94,10 +92,10 @@ module _ (b : List ℕ) (at : ℕ) {k s : ℕ} (is : k ≡ kind b at) (steps : s
   unfolding frame_of nodes_of end_of
   frame_insert e m = rw (← is, ← steps, e, m)
 
-pub framed_found : (b : List ℕ) (n at : ℕ) {got : Checked} {f : Extent} → got ≡ frame_check b n at → got ≡ Fine → f ≡ frame_of b at → framed.Found f ≡ frame_at b n at
+pub framed_found : (b : List ℕ) (n at : ℕ) {got : Checked} {f : Extent} → got ≡ frame_check b n at → got ≡ Fine → f ≡ frame_of b at → Ok f ≡ frame_at b n at
 unfolding frame_at
 framed_found b n at e g f = rw (← e, g, f)
 
-pub framed_refused : (b : List ℕ) (n at : ℕ) {got : Checked} {r : Refusal} → got ≡ frame_check b n at → got ≡ Refused r → framed.Refused r ≡ frame_at b n at
+pub framed_refused : (b : List ℕ) (n at : ℕ) {got : Checked} {r : Refusal} → got ≡ frame_check b n at → got ≡ Err r → Err r ≡ frame_at b n at
 unfolding frame_at
 framed_refused b n at e g = rw (← e, g)

@@ -1,4 +1,5 @@
 -- A frame that is refused has the fault that the refusal names.
+use Rattle.std.specs.Prelude.{Err}
 use Prim.Native.Nat.{ℕ, ◌+◌, ◌<◌}
 use mathlib.Core.Path.{◌≡◌, refl, sym}
 use mathlib.Core.Bool.{Bool, true, false, ◌||◌, cond, not, false≢true}
@@ -8,9 +9,9 @@ use lib.Dec.{eqb, ltb}
 use lib.ListN.{length}
 use borrow.Author.Tests.{eqb-true, ltb-false}
 use Rattle.tables.specs.Limits.{step_limit, frame_limit}
-use Rattle.tables.specs.Checks.{test, refuse}
+use Rattle.tables.specs.Checks.{test, refuse, Fine}
+use Rattle.tables.specs.Refusals.{numbered}
 use Rattle.tables.specs.declared.refusal.Refusal.{Refusal}
-use Rattle.tables.specs.declared.refusal.Checked.TheVariants.{Fine, Refused}
 use Rattle.tables.proofs.Accepted.{never, then_first}
 use Rattle.tables.proofs.Refused.{test_why, then_why}
 use Rattle.batch_parts.specs.Parts.{count, count_check, steps_check, nodes_check}
@@ -22,7 +23,7 @@ use Rattle.batch_frame.specs.Faults.{too_many, kind_wrong, no_steps, many_steps,
 
 module _ (b : List ℕ) (n at : ℕ) (here : at < length b) where
   module _ {r : Refusal} where
-    ends_early : length b < end_of b at → r ≡ record { number = 9; table = 6; place = length b } → FaultAt b n at r
+    ends_early : length b < end_of b at → r ≡ record { reason = numbered 9; table = 6; place = length b } → FaultAt b n at r
     ends_early early is = rw is (record { fault = missing early; from = omega arith; to = omega arith; there = λ other. absurd (other refl) })
 
     steps_fault : StepsWrong b (at + 1) r → FaultAt b n at r
@@ -45,7 +46,7 @@ module _ (b : List ℕ) (n at : ℕ) (here : at < length b) where
     nodes_fault two (label_at v l w is h) = rw is (record { fault = label_zero two v l w; from = omega arith; to = omega (arith, h); there = λ other. h })
 
     -- what stands behind steps that are fine
-    rest_fault : steps_check b (at + 1) ≡ Fine → rest_check b (kind b at) at ≡ Refused r → FaultAt b n at r
+    rest_fault : steps_check b (at + 1) ≡ Fine → rest_check b (kind b at) at ≡ Err r → FaultAt b n at r
     unfolding steps_check rest_check
     rest_fault fine e =
         then_why (test (not (eqb (kind b at) 3) || ltb 1 (count b (at + 1))) (refuse 6 6 (at + 1))) _
@@ -64,16 +65,16 @@ module _ (b : List ℕ) (n at : ℕ) (here : at < length b) where
             (eqb-true (kind b at) 3 is, omega (arith, ltb-false 1 (count b (at + 1)) many, count_some b (at + 1) step_limit counted))
         one false u is many f = absurd (false≢true (sym f))
 
-        of_one : (kind b at ≡ 3) × (count b (at + 1) ≡ 1) → r ≡ record { number = 6; table = 6; place = at + 1 } → FaultAt b n at r
+        of_one : (kind b at ≡ 3) × (count b (at + 1) ≡ 1) → r ≡ record { reason = numbered 6; table = 6; place = at + 1 } → FaultAt b n at r
         of_one w is =
             let there = count_here b (at + 1) step_limit counted in
             rw is (record { fault = one_step w.0 w.1; from = omega arith; to = omega (arith, there); there = λ other. there })
 
-        insert : (t : Bool) → eqb (kind b at) 2 ≡ t → cond t (nodes_check b (tree_at at (count b (at + 1)))) Fine ≡ Refused r → FaultAt b n at r
+        insert : (t : Bool) → eqb (kind b at) 2 ≡ t → cond t (nodes_check b (tree_at at (count b (at + 1)))) Fine ≡ Err r → FaultAt b n at r
         insert true is f = nodes_fault (eqb-true (kind b at) 2 is) (nodes_why b (tree_at at (count b (at + 1))) f)
         insert false is f = never f refl
 
-    pub frame_fault : frame_check b n at ≡ Refused r → FaultAt b n at r
+    pub frame_fault : frame_check b n at ≡ Err r → FaultAt b n at r
     unfolding frame_check
     frame_fault e =
         then_why (test (ltb n frame_limit) (refuse 10 6 at)) _

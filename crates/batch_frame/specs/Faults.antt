@@ -3,13 +3,14 @@ use Rattle.std.specs.Prelude.{ℕ, ◌+◌, ◌*◌, ◌<◌, ◌≤◌, ◌≡�
 use Rattle.tables.specs.Limits.{step_limit, tree_limit, frame_limit}
 use Rattle.tables.specs.Words.{tag}
 use Rattle.tables.specs.Checks.{axis_right, parent_right}
+use Rattle.tables.specs.Refusals.{number, numbered}
 use Rattle.tables.specs.declared.refusal.Refusal.{Refusal}
 use Rattle.batch_parts.specs.Parts.{count}
 use Rattle.batch_frame.specs.Frames.{kind, tree_at, kind_right, end_of}
 
 -- refusal number n of a batch, at a word
 abbrev pub named : ℕ → ℕ → Refusal
-named n offset = record { number = n; table = 6; place = offset }
+named n offset = record { reason = numbered n; table = 6; place = offset }
 
 -- where the step count of a frame stands, and where its steps begin; the same of the nodes of an insert
 abbrev pub step_count : ℕ → ℕ
@@ -47,4 +48,4 @@ pub record FaultAt (b : List ℕ) (n at : ℕ) (why : Refusal) : Type 0 where
   pub fault : Fault b n at why
   pub from : at ≤ why.place
   pub to : why.place ≤ length b
-  pub there : (why.number ≡ 9 → ⊥) → why.place < length b
+  pub there : (number why.reason ≡ 9 → ⊥) → why.place < length b

@@ -1,13 +1,10 @@
 -- One frame of a batch: a kind (1 read, 2 insert, 3 delete), the step count, the steps and, for an insert, the node count and the nodes.
-use Rattle.std.specs.Prelude.{ℕ, ◌+◌, ◌*◌, Bool, ◌||◌, cond, not, List, eqb, ltb, get_or}
+use Rattle.tables.specs.declared.refusal.Refusal.{Refusal}
+use Rattle.std.specs.Prelude.{ℕ, ◌+◌, ◌*◌, Bool, ◌||◌, cond, not, List, eqb, ltb, get_or, Result, Ok, Err}
 use Rattle.tables.specs.Limits.{frame_limit}
-use Rattle.tables.specs.Checks.{◌then◌, test, refuse}
-use Rattle.tables.specs.declared.refusal.Checked.{Checked}
-use Rattle.tables.specs.declared.refusal.Checked.TheVariants.{Fine, Refused}
+use Rattle.tables.specs.Checks.{◌then◌, test, refuse, Checked, Fine}
 use Rattle.batch_parts.specs.Parts.{count, steps_check, nodes_check}
 use Rattle.outcomes.specs.declared.frames.Extent.{Extent}
-use Rattle.outcomes.specs.declared.frames.Framed.{Framed}
-use Rattle.outcomes.specs.declared.frames.Framed.TheVariants as framed
 
 -- a frame's kind
 abbrev pub kind : List ℕ → ℕ → ℕ
@@ -52,9 +49,9 @@ frame_of b at =
     record { kind = kind b at; from = at + 2; steps = count b (at + 1); nodes = nodes_of b at; next = end_of b at }
 
 -- what reading a frame answers: the frame, or its refusal
-abbrev pub answered : Checked → Extent → Framed
-answered Fine f = framed.Found f
-answered (Refused r) f = framed.Refused r
+abbrev pub answered : Checked → Extent → Result Extent Refusal
+answered (Ok tt) f = Ok f
+answered (Err r) f = Err r
 
-unfoldable pub frame_at : List ℕ → ℕ → ℕ → Framed
+unfoldable pub frame_at : List ℕ → ℕ → ℕ → Result Extent Refusal
 frame_at b n at = answered (frame_check b n at) (frame_of b at)

@@ -7,13 +7,13 @@ ghost use Rattle.batch_parts.specs.Parts.{steps_check};
 ghost use Rattle.batch_frame.specs.Frames.{kind_right, rest_check, frame_check, frame_of, frame_at};
 
 use batch_parts::{nodes_checked, steps_checked};
-use outcomes::frames::{Extent, Framed};
+use outcomes::frames::Extent;
 use tables::limits::FRAME_LIMIT;
-use tables::refusal::{Checked, refused};
+use tables::refusal::{Reason, Refusal, refused};
 use tables::words::word;
 
 // What stands behind the steps of a frame of kind k.
-fn rest_checked(b: &[u16], k: usize, at: usize) -> Checked
+fn rest_checked(b: &[u16], k: usize, at: usize) -> Result<(), Refusal>
     requires { at < length b.now }
     ensures { result ≡ rest_check b.now k at }
 {
@@ -22,12 +22,12 @@ fn rest_checked(b: &[u16], k: usize, at: usize) -> Checked
         return nodes_checked(b, at + 2 + 2 * steps);
     }
     if k != 3 {
-        return Checked::Fine;
+        return Ok(());
     }
     if steps <= 1 {
-        return refused(6, 6, at + 1);
+        return refused(Reason::OneStep, 6, at + 1);
     }
-    Checked::Fine
+    Ok(())
 }
 
 fn kind_right(k: usize) -> bool
@@ -43,26 +43,24 @@ fn kind_right(k: usize) -> bool
 }
 
 // The steps of a frame, and what stands behind them.
-fn body_checked(b: &[u16], k: usize, at: usize) -> Checked
+fn body_checked(b: &[u16], k: usize, at: usize) -> Result<(), Refusal>
     requires { at < length b.now }
     ensures { result ≡ (steps_check b.now (at + 1) then rest_check b.now k at) }
 {
-    match steps_checked(b, at + 1) {
-        Checked::Fine => rest_checked(b, k, at),
-        Checked::Refused(r) => Checked::Refused(r),
-    }
+    steps_checked(b, at + 1)?;
+    rest_checked(b, k, at)
 }
 
 // The checks of frame n at a place.
-fn frame_checked(b: &[u16], n: usize, at: usize) -> Checked
+fn frame_checked(b: &[u16], n: usize, at: usize) -> Result<(), Refusal>
     ensures { result ≡ frame_check b.now n at }
 {
     if FRAME_LIMIT <= n {
-        return refused(10, 6, at);
+        return refused(Reason::Batch, 6, at);
     }
     let k = word(b, at);
     if !kind_right(k) {
-        return refused(8, 6, at);
+        return refused(Reason::Kind, 6, at);
     }
     body_checked(b, k, at)
 }
@@ -95,11 +93,9 @@ fn frame_of(b: &[u16], at: usize) -> Extent
 }
 
 // Frame n at a place of the batch, or its refusal.
-pub fn read_frame(b: &[u16], n: usize, at: usize) -> Framed
+pub fn read_frame(b: &[u16], n: usize, at: usize) -> Result<Extent, Refusal>
     ensures { result ≡ frame_at b.now n at }
 {
-    match frame_checked(b, n, at) {
-        Checked::Fine => Framed::Found(frame_of(b, at)),
-        Checked::Refused(r) => Framed::Refused(r),
-    }
+    frame_checked(b, n, at)?;
+    Ok(frame_of(b, at))
 }

@@ -1,11 +1,8 @@
 -- Inside: when the read and the update at two places of a batch clash.
-use Rattle.std.specs.Prelude.{◌≡◌, Bool, true, false, List, ℕ}
-use Rattle.tables.specs.declared.refusal.Checked.TheVariants.{Fine}
+use Rattle.tables.specs.declared.refusal.Refusal.{Refusal}
+use Rattle.tables.specs.Checks.{Fine}
+use Rattle.std.specs.Prelude.{◌≡◌, Bool, true, false, List, ℕ, Option, Some, None, Result, Ok, Err}
 use Rattle.conflict.specs.Conflict.{Update}
-use Rattle.outcomes.specs.declared.verdicts.Verdict.{Verdict}
-use Rattle.outcomes.specs.declared.verdicts.Verdict.TheVariants as verdict
-use Rattle.outcomes.specs.declared.verdicts.Deeply.{Deeply}
-use Rattle.outcomes.specs.declared.verdicts.Deeply.TheVariants as deep
 use Rattle.check_verdict.specs.Order.{deep_check}
 
 -- where a verdict accepts them, they are related; what it refuses counts as a clash, since a read that stays behind an update is never wrong
@@ -13,13 +10,13 @@ pub record Clash (Related : List ℕ → Update → Type 0) (r : List ℕ) (u : 
   pub related : deep_check r u ≡ Fine → Related r u
 
 -- what a verdict says of it
-abbrev pub said : Verdict → Bool
-said (verdict.Refused why) = true
-said verdict.Clear = false
-said (verdict.Conflict n) = true
+abbrev pub said : Result (Option ℕ) Refusal → Bool
+said (Err why) = true
+said (Ok None) = false
+said (Ok (Some n)) = true
 
 -- and what a deep verdict says of it
-abbrev pub said_deep : Deeply → Bool
-said_deep (deep.Refused why) = true
-said_deep deep.No = false
-said_deep deep.Yes = true
+abbrev pub said_deep : Result Bool Refusal → Bool
+said_deep (Err why) = true
+said_deep (Ok false) = false
+said_deep (Ok true) = true

@@ -11,8 +11,8 @@ ghost use Rattle.batch_check.specs.Batches.{pattern_of, tree_of, update_of};
 ghost use Rattle.batch_judge.specs.Judging.{Clash, said, said_deep};
 
 use batch_mode::Mode;
-use outcomes::verdicts::{Deeply, Verdict};
 use tables::limits::STEP_LIMIT;
+use tables::refusal::Refusal;
 use tables::words::word;
 use verdict::{delete_verdict, insert_verdict};
 use verdict_deep::{deep_delete_verdict, deep_insert_verdict};
@@ -28,14 +28,10 @@ fn scratch() -> [u16; WORDS]
 }
 
 // Whether a verdict says that they clash.
-fn clash(answer: Verdict) -> bool
+fn clash(answer: Result<Option<usize>, Refusal>) -> bool
     ensures { result ≡ said answer }
 {
-    match answer {
-        Verdict::Refused(_) => true,
-        Verdict::Clear => false,
-        Verdict::Conflict(_) => true,
-    }
+    !matches!(answer, Ok(None))
 }
 
 // Whether a read and a delete conflict, if they are accepted.
@@ -55,14 +51,10 @@ fn insert_conflicts(r: &[u16], p: &[u16], x: &[u16]) -> bool
 }
 
 // Whether a deep verdict says that they clash.
-fn deep_clash(answer: Deeply) -> bool
+fn deep_clash(answer: Result<bool, Refusal>) -> bool
     ensures { result ≡ said_deep answer }
 {
-    match answer {
-        Deeply::Refused(_) => true,
-        Deeply::No => false,
-        Deeply::Yes => true,
-    }
+    answer.unwrap_or(true)
 }
 
 // Whether a read and a delete conflict deeply, if they are accepted.

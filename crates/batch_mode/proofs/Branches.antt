@@ -1,50 +1,27 @@
--- The branches of the code are those of the definitions; two numbers name a mode, each its own.
+-- Two numbers name a mode, each its own.
 use Prim.Native.Nat.{ℕ}
 use mathlib.Core.Path.{◌≡◌, refl}
 use mathlib.Core.Bool.{Bool, true, false, ◌||◌}
 use mathlib.Core.Logic.{◌⊎◌, inl, inr, ◌↔◌}
 use lib.Dec.{eqb}
-use borrow.Author.Tests.{eqb-true, ne_eqb}
-use Rattle.tables.specs.Checks.{refuse}
-use Rattle.tables.specs.declared.refusal.Checked.{Checked}
-use Rattle.tables.specs.declared.refusal.Checked.TheVariants.{Fine}
+use borrow.Author.Tests.{eqb-true}
+use Rattle.tables.specs.Checks.{Fine}
 use Rattle.tables.proofs.Accepted.{held}
 use Rattle.batch_mode.specs.Modes.{mode_check, mode_of}
 use Rattle.batch_mode.specs.declared.Mode.TheVariants.{Node, Deep}
 
-module _ (w : ℕ) where
-  pub check_node : w ≡ 1 → Fine ≡ mode_check w
-  unfolding mode_check
-  check_node e = rw e
+-- a number is accepted exactly if it is 1 or 2
+pub check_exactly : (w : ℕ) → (mode_check w ≡ Fine) ↔ ((w ≡ 1) ⊎ (w ≡ 2))
+unfolding mode_check
+check_exactly w = (λ e. which (eqb w 1) (eqb w 2) refl refl (held (eqb w 1 || eqb w 2) _ e), λ (h : (w ≡ 1) ⊎ (w ≡ 2)). back h)
+  where
+    which : (a b : Bool) → eqb w 1 ≡ a → eqb w 2 ≡ b → (a || b) ≡ true → (w ≡ 1) ⊎ (w ≡ 2)
+    which true b e f h = inl (eqb-true w 1 e)
+    which false b e f h = inr (eqb-true w 2 (rw h at f))
 
-  pub check_deep : w ≡ 2 → Fine ≡ mode_check w
-  unfolding mode_check
-  check_deep e = rw e
-
-  pub check_other : (w ≡ 1 → ⊥) → (w ≡ 2 → ⊥) → {c : Checked} → c ≡ refuse 8 6 1 → c ≡ mode_check w
-  unfolding mode_check
-  check_other one two e = rw (ne_eqb w 1 one, ne_eqb w 2 two) e
-
-  pub named_node : w ≡ 1 → Node ≡ mode_of w
-  unfolding mode_of
-  named_node e = rw e
-
-  pub named_deep : (w ≡ 1 → ⊥) → Deep ≡ mode_of w
-  unfolding mode_of
-  named_deep one = rw (ne_eqb w 1 one)
-
-  -- a number is accepted exactly if it is 1 or 2
-  pub check_exactly : (mode_check w ≡ Fine) ↔ ((w ≡ 1) ⊎ (w ≡ 2))
-  unfolding mode_check
-  check_exactly = (λ e. which (eqb w 1) (eqb w 2) refl refl (held (eqb w 1 || eqb w 2) _ e), λ (h : (w ≡ 1) ⊎ (w ≡ 2)). back h)
-    where
-      which : (a b : Bool) → eqb w 1 ≡ a → eqb w 2 ≡ b → (a || b) ≡ true → (w ≡ 1) ⊎ (w ≡ 2)
-      which true b e f h = inl (eqb-true w 1 e)
-      which false b e f h = inr (eqb-true w 2 (rw h at f))
-
-      back : (w ≡ 1) ⊎ (w ≡ 2) → mode_check w ≡ Fine
-      back (inl e) = rw e
-      back (inr e) = rw e
+    back : (w ≡ 1) ⊎ (w ≡ 2) → mode_check w ≡ Fine
+    back (inl e) = rw e
+    back (inr e) = rw e
 
 -- 1 names node, 2 names deep
 pub one_node : mode_of 1 ≡ Node

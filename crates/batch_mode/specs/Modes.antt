@@ -1,7 +1,7 @@
 -- The two modes of a plan: node and deep.
-use Rattle.std.specs.Prelude.{ℕ, ◌||◌, cond, List, eqb}
-use Rattle.tables.specs.Checks.{refuse, test}
-use Rattle.tables.specs.declared.refusal.Checked.{Checked}
+use Rattle.std.specs.Prelude.{ℕ, ◌||◌, ◌≡◌, cond, List, eqb, Result, Ok, Err}
+use Rattle.tables.specs.Checks.{refuse, test, Checked, Fine}
+use Rattle.tables.specs.declared.refusal.Refusal.{Refusal}
 use Rattle.conflict.specs.Conflict.{Update, Conflict, Deep}
 use Rattle.batch_mode.specs.declared.Mode.{Mode}
 use Rattle.batch_mode.specs.declared.Mode.TheVariants as mode
@@ -18,3 +18,8 @@ mode_check w = test (eqb w 1 || eqb w 2) (refuse 8 6 1)
 -- the mode that a number names
 unfoldable pub mode_of : ℕ → Mode
 mode_of w = cond (eqb w 1) mode.Node mode.Deep
+
+-- what a number is taken for: the mode that it names, or the refusal of one that names none
+abbrev pub Named : ℕ → Result Mode Refusal → Type 0
+Named w (Ok m) = (mode_check w ≡ Fine) × (m ≡ mode_of w)
+Named w (Err r) = mode_check w ≡ Err r

@@ -1,37 +1,33 @@
 // The two modes of a plan and their numbers.
 #![tactic(auto)]
 
-ghost use Rattle.std.specs.Prelude.{◌≡◌};
-ghost use Rattle.batch_mode.specs.Modes.{mode_check, mode_of};
+ghost use Rattle.batch_mode.specs.Modes.{Named};
 
-use tables::refusal::{Checked, refused};
+use tables::refusal::{Reason, Refusal};
 
 // Node: a read's nodes count. Deep: also what lies below them.
-#[derive(Clone, Copy)]
+#[derive(Clone, Copy, Debug, PartialEq, Eq)]
 pub enum Mode {
     Node,
     Deep,
 }
 
-// Whether a number names a mode: refusal 8.
-pub fn mode_check(word: usize) -> Checked
-    ensures { result ≡ mode_check word }
-{
-    if word == 1 {
-        return Checked::Fine;
-    }
-    if word == 2 {
-        return Checked::Fine;
-    }
-    refused(8, 6, 1)
-}
+// The mode that a number names: 1 node, 2 deep; refusal 8 for another.
+impl TryFrom<usize> for Mode {
+    type Error = Refusal;
 
-// The mode that a number names: 1 is node, every other is taken for deep.
-pub fn mode_of(word: usize) -> Mode
-    ensures { result ≡ mode_of word }
-{
-    if word == 1 {
-        return Mode::Node;
+    ghost try_from_gives = { Named };
+
+    #[tactic(auto, unfolding(crate::specs::Modes::mode_check, crate::specs::Modes::mode_of))]
+    fn try_from(word: usize) -> Result<Mode, Refusal> {
+        match word {
+            1 => Ok(Mode::Node),
+            2 => Ok(Mode::Deep),
+            _ => Err(Refusal {
+                reason: Reason::Kind,
+                table: 6,
+                place: 1,
+            }),
+        }
     }
-    Mode::Deep
 }

@@ -1,30 +1,24 @@
 -- The branches of the code, held against those of the definitions, and what a fine count says.
+use Rattle.std.specs.Prelude.{Err}
 use Prim.Native.Nat.{ℕ, ◌+◌, ◌-◌, ◌*◌, ◌/◌, ◌<◌, ◌≤◌}
-use mathlib.Core.Path.{◌≡◌, ◌∙◌}
+use mathlib.Core.Path.{◌≡◌, sym, ◌∙◌}
 use mathlib.Core.List.{List}
 use native.Mathlib.Nat.{pos_of_ne-zero}
 use native.Mathlib.Omega.{arith}
 use mathlib.Core.Bool.{Bool, true, false, cond}
 use lib.Dec.{eqb, ltb, leb}
 use lib.ListN.{length, get_or}
-use borrow.Author.Tests.{ne_eqb, lt-ltb, le-ltb, le-leb, lt-leb, ltb-true, leb-true}
+use borrow.Author.Tests.{lt-ltb, le-ltb, le-leb, lt-leb, ltb-true, leb-true}
 use Rattle.tables.specs.declared.refusal.Refusal.{Refusal}
-use Rattle.tables.specs.declared.refusal.Checked.{Checked}
-use Rattle.tables.specs.declared.refusal.Checked.TheVariants.{Fine, Refused}
-use Rattle.tables.specs.Checks.{◌then◌, test, refuse}
+use Rattle.tables.specs.Refusals.{number}
+use Rattle.tables.specs.Checks.{◌then◌, test, refuse, Checked, Fine}
 use Rattle.tables.proofs.Branches.{then_on}
 use Rattle.tables.proofs.Accepted.{held, then_first, then_second}
 use Rattle.batch_parts.specs.Parts.{part, count, in_steps, in_nodes, count_check}
 
 -- which word of a node is named
-pub named_second : (number : ℕ) → number ≡ 5 → ◌≡◌ {A = ℕ} 1 (cond (eqb number 5) 1 0)
-named_second number e = rw e
-
-pub named_first : (number : ℕ) → (number ≡ 5 → ⊥) → ◌≡◌ {A = ℕ} 0 (cond (eqb number 5) 1 0)
-named_first number other = rw (ne_eqb number 5 other)
-
-pub named_most : (number : ℕ) {word : ℕ} → word ≡ cond (eqb number 5) 1 0 → word ≤ 1
-named_most number is = go (eqb number 5) is
+pub named_most : (n : ℕ) {word : ℕ} → word ≡ cond (eqb n 5) 1 0 → word ≤ 1
+named_most n is = go (eqb n 5) is
   where
     go : (t : Bool) {word : ℕ} → word ≡ cond t 1 0 → word ≤ 1
     go true e = omega arith
@@ -38,11 +32,11 @@ module _ (from : ℕ) {got c : Checked} (e : got ≡ c) where
   pub nodes-on : got ≡ Fine → Fine ≡ in_nodes from c
   nodes-on told = rw (← e, told)
 
-  module _ {r : Refusal} (told : got ≡ Refused r) {answer : Checked} where
-    pub steps_off : answer ≡ refuse r.number 6 (from + 2 * r.place) → answer ≡ in_steps from c
+  module _ {r : Refusal} (told : got ≡ Err r) {answer : Checked} where
+    pub steps_off : answer ≡ Err (record { reason = r.reason; table = 6; place = from + 2 * r.place }) → answer ≡ in_steps from c
     steps_off a = rw (← e, told) a
 
-    pub nodes_off : {word : ℕ} → word ≡ cond (eqb r.number 5) 1 0 → answer ≡ refuse r.number 6 (from + 2 * r.place + word) → answer ≡ in_nodes from c
+    pub nodes_off : {word : ℕ} → word ≡ cond (eqb (number r.reason) 5) 1 0 → answer ≡ Err (record { reason = r.reason; table = 6; place = from + 2 * r.place + word }) → answer ≡ in_nodes from c
     nodes_off is a = rw (← e, told, ← is) a
 
 module _ {answer : Checked} (b : List ℕ) (at limit : ℕ) where
@@ -92,6 +86,10 @@ module _ (b : List ℕ) (at limit : ℕ) where
 
     pub count_room : at + 1 + 2 * count b at ≤ length b
     count_room = leb-true _ (length b) (held (leb (at + 1 + 2 * count b at) (length b)) _ (then_second (test (leb (count b at) limit) (refuse 2 6 at)) _ tail_two))
+
+-- the part behind a count that is fine lies within the batch
+pub part_room : (b : List ℕ) (at limit : ℕ) {c : ℕ} {got : Checked} → got ≡ count_check b at limit → got ≡ Fine → c ≡ count b at → at + 1 + 2 * c ≤ length b
+part_room b at limit e f is = rw is (count_room b at limit (sym e ∙ f))
 
 -- a count, and then a check of the part behind it
 pub part-on : (inPart : ℕ → Checked → Checked) (check : List ℕ → Checked) (b : List ℕ) (at limit : ℕ) {c : ℕ} {got answer : Checked}

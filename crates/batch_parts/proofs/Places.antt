@@ -1,13 +1,12 @@
 -- A refusal of a part of the batch lies within that part.
+use Rattle.std.specs.Prelude.{Err}
 use Prim.Native.Nat.{ℕ, ◌+◌, ◌-◌, ◌*◌, ◌≤◌}
 use mathlib.Core.Path.{◌≡◌, sym, ◌∙◌}
 use mathlib.Core.List.{List}
 use native.Mathlib.Omega.{arith}
 use lib.ListN.{length, length-take}
-use Rattle.tables.specs.Checks.{pattern_check, tree_check}
+use Rattle.tables.specs.Checks.{pattern_check, tree_check, Checked}
 use Rattle.tables.specs.declared.refusal.Refusal.{Refusal}
-use Rattle.tables.specs.declared.refusal.Checked.{Checked}
-use Rattle.tables.specs.declared.refusal.Checked.TheVariants.{Refused}
 use Rattle.tables.proofs.Refused.{WrongSteps, size_of_steps, axis_of, pattern_why, WrongNodes, size_of_nodes, parent_of, label_of, tree_why}
 use Rattle.batch_parts.specs.Parts.{part}
 
@@ -21,7 +20,7 @@ module _ (p : List ℕ) (limit table : ℕ) {r : Refusal} where
   node_within (parent_of v l w is) = rw is (omega (arith, l))
   node_within (label_of v l w is) = rw is (omega (arith, l))
 
-module _ (b : List ℕ) (from to limit table : ℕ) (in_order : from ≤ to) (room : to ≤ length b) {got : Checked} {r : Refusal} (told : got ≡ Refused r) where
+module _ (b : List ℕ) (from to limit table : ℕ) (in_order : from ≤ to) (room : to ≤ length b) {got : Checked} {r : Refusal} (told : got ≡ Err r) where
   part_short : length (part b from (to - from)) ≤ to - from
   part_short = rw length-take (omega arith)
 

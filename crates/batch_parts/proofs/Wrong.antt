@@ -1,4 +1,5 @@
 -- What is wrong with a counted part that is refused, and at which word of the batch.
+use Rattle.std.specs.Prelude.{Ok, Err}
 use Prim.Native.Nat.{ℕ, ◌+◌, ◌*◌, ◌/◌, ◌%◌, ◌<◌, ◌≤◌}
 use mathlib.Core.Path.{◌≡◌, refl}
 use mathlib.Core.Bool.{false}
@@ -11,10 +12,9 @@ use lib.Seq.{get_or-take}
 use borrow.Author.Tests.{ltb-true, ltb-false, leb-false, lt-ltb, le-leb}
 use Rattle.tables.specs.Limits.{step_limit, tree_limit}
 use Rattle.tables.specs.Words.{tag}
-use Rattle.tables.specs.Checks.{test, refuse, size_check, axis_right, pattern_check, parent_right, tree_check}
+use Rattle.tables.specs.Checks.{test, refuse, size_check, axis_right, pattern_check, parent_right, tree_check, Checked, Fine}
+use Rattle.tables.specs.Refusals.{numbered}
 use Rattle.tables.specs.declared.refusal.Refusal.{Refusal}
-use Rattle.tables.specs.declared.refusal.Checked.{Checked}
-use Rattle.tables.specs.declared.refusal.Checked.TheVariants.{Fine, Refused}
 use Rattle.tables.proofs.Accepted.{never, held}
 use Rattle.tables.proofs.Refused.{test_why, then_why, WrongSteps, size_of_steps, axis_of, pattern_why, WrongNodes, size_of_nodes, parent_of, label_of, tree_why}
 use Rattle.batch_parts.specs.Parts.{part, count, in_steps, in_nodes, count_check, steps_check, nodes_check}
@@ -22,12 +22,12 @@ use Rattle.batch_parts.proofs.Branches.{count_some, count-within, count_room}
 
 -- a count: absent, 0, over the limit, or with too few words behind it
 pub data WrongCount (b : List ℕ) (at limit : ℕ) (r : Refusal) : Type 0 where
-  absent : length b ≤ at → r ≡ record { number = 9; table = 6; place = length b } → WrongCount b at limit r
-  none : at < length b → count b at ≡ 0 → r ≡ record { number = 1; table = 6; place = at } → WrongCount b at limit r
-  over : at < length b → limit < count b at → r ≡ record { number = 2; table = 6; place = at } → WrongCount b at limit r
-  short : length b < at + 1 + 2 * count b at → r ≡ record { number = 9; table = 6; place = length b } → WrongCount b at limit r
+  absent : length b ≤ at → r ≡ record { reason = numbered 9; table = 6; place = length b } → WrongCount b at limit r
+  none : at < length b → count b at ≡ 0 → r ≡ record { reason = numbered 1; table = 6; place = at } → WrongCount b at limit r
+  over : at < length b → limit < count b at → r ≡ record { reason = numbered 2; table = 6; place = at } → WrongCount b at limit r
+  short : length b < at + 1 + 2 * count b at → r ≡ record { reason = numbered 9; table = 6; place = length b } → WrongCount b at limit r
 
-pub count_why : (b : List ℕ) (at limit : ℕ) {r : Refusal} → count_check b at limit ≡ Refused r → WrongCount b at limit r
+pub count_why : (b : List ℕ) (at limit : ℕ) {r : Refusal} → count_check b at limit ≡ Err r → WrongCount b at limit r
 unfolding count_check
 count_why b at limit e =
     then_why (test (ltb at (length b)) (refuse 9 6 (length b))) _
@@ -49,7 +49,7 @@ module _ (b : List ℕ) (at limit : ℕ) (fine : count_check b at limit ≡ Fine
   pairs : length (part b (at + 1) (2 * count b at)) ≡ 2 * count b at
   pairs = simp (length-take, length-drop) (omega (arith, count_room b at limit fine))
 
-  size_right : {r : Refusal} {A : Type 0} → size_check (length (part b (at + 1) (2 * count b at))) limit 6 ≡ Refused r → A
+  size_right : {r : Refusal} {A : Type 0} → size_check (length (part b (at + 1) (2 * count b at))) limit 6 ≡ Err r → A
   unfolding size_check
   size_right e =
       let even : 2 * count b at % 2 ≡ 0 = omega arith in
@@ -63,20 +63,20 @@ module _ (b : List ℕ) (at limit : ℕ) (fine : count_check b at limit ≡ Fine
 -- of steps: the count, or an axis
 pub data StepsWrong (b : List ℕ) (at : ℕ) (r : Refusal) : Type 0 where
   count_of : WrongCount b at step_limit r → StepsWrong b at r
-  axis_at : (i : ℕ) → i < count b at → axis_right (drop (at + 1) b) i ≡ false → r ≡ record { number = 3; table = 6; place = at + 1 + 2 * i }
+  axis_at : (i : ℕ) → i < count b at → axis_right (drop (at + 1) b) i ≡ false → r ≡ record { reason = numbered 3; table = 6; place = at + 1 + 2 * i }
       → at + 1 + 2 * i < length b → StepsWrong b at r
 
 module _ (b : List ℕ) (at : ℕ) {r : Refusal} where
-  axis_in : (fine : count_check b at step_limit ≡ Fine) {q : Refusal} → WrongSteps (part b (at + 1) (2 * count b at)) step_limit 6 q → in_steps (at + 1) (Refused q) ≡ Refused r → StepsWrong b at r
+  axis_in : (fine : count_check b at step_limit ≡ Fine) {q : Refusal} → WrongSteps (part b (at + 1) (2 * count b at)) step_limit 6 q → in_steps (at + 1) (Err q) ≡ Err r → StepsWrong b at r
   unfolding axis_right
   axis_in fine (size_of_steps f z) e = size_right b at step_limit fine f
   axis_in fine {q} (axis_of i l w is) e =
       let low : i < count b at = omega (arith, l, pairs b at step_limit fine) in
-      let flat : refuse 3 6 (at + 1 + 2 * i) ≡ Refused r = rw is at e in
-      let same : r ≡ record { number = 3; table = 6; place = at + 1 + 2 * i } = cc in
+      let flat : refuse 3 6 (at + 1 + 2 * i) ≡ Err r = rw is at e in
+      let same : r ≡ record { reason = numbered 3; table = 6; place = at + 1 + 2 * i } = cc in
       axis_at i low (rw (word_there b at step_limit fine (2 * i) (omega arith)) at w) same (omega (arith, count_room b at step_limit fine))
 
-  pub steps_why : steps_check b at ≡ Refused r → StepsWrong b at r
+  pub steps_why : steps_check b at ≡ Err r → StepsWrong b at r
   unfolding steps_check
   steps_why e =
       then_why (count_check b at step_limit) _
@@ -84,34 +84,34 @@ module _ (b : List ℕ) (at : ℕ) {r : Refusal} where
       (λ fine f. on fine _ refl f)
       e
     where
-      on : count_check b at step_limit ≡ Fine → (c : Checked) → pattern_check (part b (at + 1) (2 * count b at)) step_limit 6 ≡ c → in_steps (at + 1) c ≡ Refused r → StepsWrong b at r
-      on fine Fine is f = never f refl
-      on fine (Refused q) is f = axis_in fine (pattern_why (part b (at + 1) (2 * count b at)) step_limit 6 is) f
+      on : count_check b at step_limit ≡ Fine → (c : Checked) → pattern_check (part b (at + 1) (2 * count b at)) step_limit 6 ≡ c → in_steps (at + 1) c ≡ Err r → StepsWrong b at r
+      on fine (Ok tt) is f = never f refl
+      on fine (Err q) is f = axis_in fine (pattern_why (part b (at + 1) (2 * count b at)) step_limit 6 is) f
 
 -- of nodes: the count, a parent or a label
 pub data NodesWrong (b : List ℕ) (at : ℕ) (r : Refusal) : Type 0 where
   node_count_of : WrongCount b at tree_limit r → NodesWrong b at r
-  parent_at : (v : ℕ) → v < count b at → parent_right (drop (at + 1) b) v ≡ false → r ≡ record { number = 4; table = 6; place = at + 1 + 2 * v }
+  parent_at : (v : ℕ) → v < count b at → parent_right (drop (at + 1) b) v ≡ false → r ≡ record { reason = numbered 4; table = 6; place = at + 1 + 2 * v }
       → at + 1 + 2 * v < length b → NodesWrong b at r
-  label_at : (v : ℕ) → v < count b at → tag (drop (at + 1) b) v ≡ 0 → r ≡ record { number = 5; table = 6; place = at + 1 + 2 * v + 1 }
+  label_at : (v : ℕ) → v < count b at → tag (drop (at + 1) b) v ≡ 0 → r ≡ record { reason = numbered 5; table = 6; place = at + 1 + 2 * v + 1 }
       → at + 1 + 2 * v + 1 < length b → NodesWrong b at r
 
 module _ (b : List ℕ) (at : ℕ) {r : Refusal} where
-  node_in : (fine : count_check b at tree_limit ≡ Fine) {q : Refusal} → WrongNodes (part b (at + 1) (2 * count b at)) tree_limit 6 q → in_nodes (at + 1) (Refused q) ≡ Refused r → NodesWrong b at r
+  node_in : (fine : count_check b at tree_limit ≡ Fine) {q : Refusal} → WrongNodes (part b (at + 1) (2 * count b at)) tree_limit 6 q → in_nodes (at + 1) (Err q) ≡ Err r → NodesWrong b at r
   unfolding parent_right
   node_in fine (size_of_nodes f z) e = size_right b at tree_limit fine f
   node_in fine {q} (parent_of v l w is) e =
       let low : v < count b at = omega (arith, l, pairs b at tree_limit fine) in
-      let flat : refuse 4 6 (at + 1 + 2 * v + 0) ≡ Refused r = rw is at e in
-      let same : r ≡ record { number = 4; table = 6; place = at + 1 + 2 * v + 0 } = cc in
+      let flat : refuse 4 6 (at + 1 + 2 * v + 0) ≡ Err r = rw is at e in
+      let same : r ≡ record { reason = numbered 4; table = 6; place = at + 1 + 2 * v + 0 } = cc in
       parent_at v low (rw (word_there b at tree_limit fine (2 * v) (omega arith)) at w) (rw add-zero at same) (omega (arith, count_room b at tree_limit fine))
   node_in fine {q} (label_of v l w is) e =
       let low : v < count b at = omega (arith, l, pairs b at tree_limit fine) in
-      let flat : refuse 5 6 (at + 1 + 2 * v + 1) ≡ Refused r = rw is at e in
-      let same : r ≡ record { number = 5; table = 6; place = at + 1 + 2 * v + 1 } = cc in
+      let flat : refuse 5 6 (at + 1 + 2 * v + 1) ≡ Err r = rw is at e in
+      let same : r ≡ record { reason = numbered 5; table = 6; place = at + 1 + 2 * v + 1 } = cc in
       label_at v low (rw (word_there b at tree_limit fine (2 * v + 1) (omega arith)) at w) same (omega (arith, count_room b at tree_limit fine))
 
-  pub nodes_why : nodes_check b at ≡ Refused r → NodesWrong b at r
+  pub nodes_why : nodes_check b at ≡ Err r → NodesWrong b at r
   unfolding nodes_check
   nodes_why e =
       then_why (count_check b at tree_limit) _
@@ -119,6 +119,6 @@ module _ (b : List ℕ) (at : ℕ) {r : Refusal} where
       (λ fine f. on fine _ refl f)
       e
     where
-      on : count_check b at tree_limit ≡ Fine → (c : Checked) → tree_check (part b (at + 1) (2 * count b at)) tree_limit 6 ≡ c → in_nodes (at + 1) c ≡ Refused r → NodesWrong b at r
-      on fine Fine is f = never f refl
-      on fine (Refused q) is f = node_in fine (tree_why (part b (at + 1) (2 * count b at)) tree_limit 6 is) f
+      on : count_check b at tree_limit ≡ Fine → (c : Checked) → tree_check (part b (at + 1) (2 * count b at)) tree_limit 6 ≡ c → in_nodes (at + 1) c ≡ Err r → NodesWrong b at r
+      on fine (Ok tt) is f = never f refl
+      on fine (Err q) is f = node_in fine (tree_why (part b (at + 1) (2 * count b at)) tree_limit 6 is) f

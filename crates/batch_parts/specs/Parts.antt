@@ -1,9 +1,8 @@
 -- The counted parts of a frame: a count, and behind it two words for each step or node.
-use Rattle.std.specs.Prelude.{ℕ, ◌+◌, ◌*◌, List, cond, eqb, ltb, leb, length, get_or, take, drop}
+use Rattle.std.specs.Prelude.{ℕ, ◌+◌, ◌*◌, List, cond, eqb, ltb, leb, length, get_or, take, drop, Ok, Err}
 use Rattle.tables.specs.Limits.{step_limit, tree_limit}
-use Rattle.tables.specs.Checks.{◌then◌, test, refuse, pattern_check, tree_check}
-use Rattle.tables.specs.declared.refusal.Checked.{Checked}
-use Rattle.tables.specs.declared.refusal.Checked.TheVariants.{Fine, Refused}
+use Rattle.tables.specs.Checks.{◌then◌, test, refuse, pattern_check, tree_check, Checked, Fine}
+use Rattle.tables.specs.Refusals.{number}
 
 -- so many words of the batch, from here on
 abbrev pub part : List ℕ → ℕ → ℕ → List ℕ
@@ -15,13 +14,13 @@ count b at = get_or b at 0
 
 -- In a batch the table is 6, and the place is the offset of a word from the start of the batch. Of steps, the first at an offset: the axis of the step
 abbrev pub in_steps : ℕ → Checked → Checked
-in_steps from Fine = Fine
-in_steps from (Refused r) = refuse r.number 6 (from + 2 * r.place)
+in_steps from (Ok tt) = Fine
+in_steps from (Err r) = Err (record { reason = r.reason; table = 6; place = from + 2 * r.place })
 
 -- of nodes, the first at an offset: the parent of the node, for 5 its label
 abbrev pub in_nodes : ℕ → Checked → Checked
-in_nodes from Fine = Fine
-in_nodes from (Refused r) = refuse r.number 6 (from + 2 * r.place + cond (eqb r.number 5) 1 0)
+in_nodes from (Ok tt) = Fine
+in_nodes from (Err r) = Err (record { reason = r.reason; table = 6; place = from + 2 * r.place + cond (eqb (number r.reason) 5) 1 0 })
 
 -- a count, and behind it two words each: absent 9, 1, 2, the rest absent 9. The place is the count; for 9 the first word that is missing
 unfoldable pub count_check : List ℕ → ℕ → ℕ → Checked

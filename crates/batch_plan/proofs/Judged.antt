@@ -1,4 +1,5 @@
 -- A read and an update that stand in a batch are accepted by the verdict, so they clash exactly where they are related.
+use Rattle.tables.specs.Checks.{Fine}
 use Prim.Native.Nat.{ℕ}
 use mathlib.Core.Path.{◌≡◌}
 use mathlib.Core.Bool.{Bool, true}
@@ -7,7 +8,6 @@ use mathlib.Core.Logic.{◌⊎◌, inl, inr, ◌↔◌}
 use borrow.Author.Tests.{lt-ltb}
 use Rattle.tables.specs.Limits.{step_limit, tree_limit}
 use Rattle.tables.specs.Words.{steps}
-use Rattle.tables.specs.declared.refusal.Checked.TheVariants.{Fine}
 use Rattle.tables.proofs.Elsewhere.{pattern_elsewhere, tree_elsewhere}
 use Rattle.conflict.specs.Conflict.{Update}
 use Rattle.batch_frame.specs.Frames.{kind}

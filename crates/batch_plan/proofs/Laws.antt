@@ -1,4 +1,6 @@
 -- What the plan's contract settles, and what follows for accepted batches.
+use Rattle.std.specs.Prelude.{Result, Ok, Err}
+use Rattle.tables.specs.Checks.{Checked, Fine}
 use Prim.Native.Nat.{ℕ, ◌<◌}
 use mathlib.Core.Path.{◌≡◌, sym, ◌∙◌}
 use mathlib.Core.Bool.{Bool}
@@ -9,8 +11,6 @@ use native.Mathlib.Omega.{arith}
 use lib.ListN.{length, get_or}
 use lib.Seq.{ext_get_or}
 use Rattle.tables.specs.declared.refusal.Refusal.{Refusal}
-use Rattle.tables.specs.declared.refusal.Checked.{Checked}
-use Rattle.tables.specs.declared.refusal.Checked.TheVariants as checked
 use Rattle.tables.specs.Words.{Bits16}
 use Rattle.conflict.specs.Conflict.{Update}
 use Rattle.order.specs.Model.{slot}
@@ -19,13 +19,11 @@ use Rattle.order.proofs.Places.{by_kind}
 use Rattle.order.proofs.Slots.{slot_same}
 use Rattle.order.specs.Fitting.{DecidedBy}
 use Rattle.order.proofs.Deciding.{conflicting, conflicting_decides, deeply, deeply_decides}
-use Rattle.batch_mode.specs.Modes.{relation_of, mode_check, mode_of}
+use Rattle.batch_mode.specs.Modes.{relation_of}
 use Rattle.batch_mode.specs.declared.Mode.{Mode}
 use Rattle.batch_mode.specs.declared.Mode.TheVariants.{Node, Deep}
-use Rattle.batch_check.specs.Batches.{batch_of, batch_check, plan_check}
-use Rattle.batch_plan.specs.Batch.{SlotIs, WordIs, PlanWritten, PlanBy, PlanOf, plan_in_check, PlanIn}
-use Rattle.outcomes.specs.declared.plans.Planned.{Planned}
-use Rattle.outcomes.specs.declared.plans.Planned.TheVariants.{Refused, Frames}
+use Rattle.batch_check.specs.Batches.{batch_of, batch_check}
+use Rattle.batch_plan.specs.Batch.{SlotIs, WordIs, PlanWritten, PlanBy}
 use Rattle.batch_check.proofs.Frames.{accepted_fits}
 use Rattle.batch_plan.proofs.Slots.{slot_one, slot_exactly}
 
@@ -56,37 +54,20 @@ module _ (Related : List ℕ → Update → Type 0) where
       go i (no h) = s.behind i (omega arith) ∙ sym (t.behind i (omega arith))
 
   -- two answers and plans that meet the contract are identical
-  pub plan_one : (order : Checked) (b before : List ℕ) {one two : List ℕ} (v w : Planned) → PlanBy order Related b before one v → PlanBy order Related b before two w → (v ≡ w) × (one ≡ two)
-  plan_one order b before (Refused x) (Refused y) s t = (cc, s.1 ∙ sym t.1)
-  plan_one order b before (Refused x) (Frames n) s t = let z : ◌≡◌ {A = ℕ} 0 1 = cc in absurd (omega arith)
-  plan_one order b before (Frames m) (Refused y) s t = let z : ◌≡◌ {A = ℕ} 0 1 = cc in absurd (omega arith)
-  plan_one order b before (Frames m) (Frames n) s t = (cc, written_one s.2 t.2)
-
-  -- what is promised behind one order is promised behind another that comes to the same
-  pub plan_order : {order other : Checked} (b before after : List ℕ) (v : Planned) → order ≡ other → PlanBy order Related b before after v → PlanBy other Related b before after v
-  plan_order b before after (Refused why) e s = (sym e ∙ s.0, s.1)
-  plan_order b before after (Frames n) e s = (sym e ∙ s.0, s.1, s.2)
-
--- a mode's number is checked first
-module _ (m : ℕ) (b before : List ℕ) where
-  pub mode_refused : {why : Refusal} → mode_check m ≡ checked.Refused why → plan_in_check m b (length before) ≡ checked.Refused why
-  mode_refused e = rw e
-
-  mode_fine : mode_check m ≡ checked.Fine → plan_check b (length before) ≡ plan_in_check m b (length before)
-  mode_fine e = rw e
-
-  -- and where it names a mode, the plan is that mode's
-  pub named_plan : (after : List ℕ) (v : Planned) → mode_check m ≡ checked.Fine → (k : Mode) → k ≡ mode_of m → PlanOf (relation_of k) b before after v → PlanIn m b before after v
-  named_plan after v fine k is h = plan_order (relation_of (mode_of m)) b before after v (mode_fine fine) (rw is at h)
+  pub plan_one : (order : Checked) (b before : List ℕ) {one two : List ℕ} (v w : Result ℕ Refusal) → PlanBy order Related b before one v → PlanBy order Related b before two w → (v ≡ w) × (one ≡ two)
+  plan_one order b before (Err x) (Err y) s t = (cc, s.1 ∙ sym t.1)
+  plan_one order b before (Err x) (Ok n) s t = let z : ◌≡◌ {A = ℕ} 0 1 = cc in absurd (omega arith)
+  plan_one order b before (Ok m) (Err y) s t = let z : ◌≡◌ {A = ℕ} 0 1 = cc in absurd (omega arith)
+  plan_one order b before (Ok m) (Ok n) s t = (cc, written_one s.2 t.2)
 
 -- a relation that is decided, and a batch of words of 16 bits that is accepted
-module _ {Related : List ℕ → Update → Type 0} {test : List ℕ → Update → Bool} (decides : DecidedBy Related test) (b : List ℕ) (words : Bits16 b) (accepted : batch_check b ≡ checked.Fine) where
+module _ {Related : List ℕ → Update → Type 0} {test : List ℕ → Update → Bool} (decides : DecidedBy Related test) (b : List ℕ) (words : Bits16 b) (accepted : batch_check b ≡ Fine) where
   -- the slot of a read by the relation is the slot of demand 3
   pub accepted_slot : {k : ℕ} {r : List ℕ} → At (batch_of b) k (read r) → (w : ℕ) → SlotIs Related (batch_of b) k r w ↔ (w ≡ slot test (batch_of b) k r)
   accepted_slot at w = slot_exactly decides (accepted_fits b words accepted) at w
 
 -- two accepted batches that agree on a read and on the updates before it give that read the same slot
-pub same_slot : (m : Mode) (b c : List ℕ) → Bits16 b → Bits16 c → batch_check b ≡ checked.Fine → batch_check c ≡ checked.Fine
+pub same_slot : (m : Mode) (b c : List ℕ) → Bits16 b → Bits16 c → batch_check b ≡ Fine → batch_check c ≡ Fine
     → {k l : ℕ} {r : List ℕ} → At (batch_of b) k (read r) → At (batch_of c) l (read r) → earlier (batch_of b) k ≡ earlier (batch_of c) l
     → {v w : ℕ} → SlotIs (relation_of m) (batch_of b) k r v → SlotIs (relation_of m) (batch_of c) l r w → v ≡ w
 same_slot m b c wb wc ab ac {k} {l} {r} p q same {v} {w} s t =

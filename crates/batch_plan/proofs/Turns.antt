@@ -9,8 +9,7 @@ use lib.ListN.{length, get_or, drop, set, length-drop, length-set}
 use lib.Seq.{get_or-set_same, get_or-set_other}
 use borrow.Author.Tests.{ne_eqb}
 use Rattle.tables.specs.Limits.{frame_limit}
-use Rattle.tables.specs.Checks.{◌then◌}
-use Rattle.tables.specs.declared.refusal.Checked.TheVariants.{Fine}
+use Rattle.tables.specs.Checks.{◌then◌, Fine}
 use Rattle.tables.proofs.Accepted.{then_first, then_second}
 use Rattle.conflict.specs.Conflict.{Update}
 use Rattle.order.specs.Frames.{Frame, read, update, At, here, there, number}

@@ -1,14 +1,11 @@
 -- The plan of a batch, by a relation of reads and updates: Conflict or Deep, as the mode has it.
-use Rattle.std.specs.Prelude.{ℕ, ◌<◌, ◌≤◌, ◌≡◌, List, length, get_or}
-use Rattle.tables.specs.declared.refusal.Checked.TheVariants as checked
-use Rattle.tables.specs.Checks.{◌then◌}
-use Rattle.tables.specs.declared.refusal.Checked.{Checked}
+use Rattle.tables.specs.declared.refusal.Refusal.{Refusal}
+use Rattle.std.specs.Prelude.{ℕ, ◌<◌, ◌≤◌, ◌≡◌, List, length, get_or, Result, Ok, Err}
+use Rattle.tables.specs.Checks.{◌then◌, Checked, Fine}
 use Rattle.conflict.specs.Conflict.{Update, Deep}
 use Rattle.order.specs.Frames.{Frame, read, update, At, number}
 use Rattle.batch_mode.specs.Modes.{relation_of, mode_check, mode_of}
 use Rattle.batch_check.specs.Batches.{batch_of, plan_check}
-use Rattle.outcomes.specs.declared.plans.Planned.{Planned}
-use Rattle.outcomes.specs.declared.plans.Planned.TheVariants.{Refused, Frames}
 
 -- an update before frame k that is related to the read r, and its number
 pub record EarlierRelated (Related : List ℕ → Update → Type 0) (b : List (Frame (List ℕ) Update)) (k : ℕ) (r : List ℕ) (w : ℕ) : Type 0 where
@@ -36,21 +33,21 @@ pub record PlanWritten (Related : List ℕ → Update → Type 0) (b : List (Fra
   pub kept : length after ≡ length before
 
 -- what planning a batch by an order of checks answers and writes: its refusal, with nothing changed, or the number of its frames, and the plan
-abbrev pub PlanBy : Checked → (List ℕ → Update → Type 0) → List ℕ → List ℕ → List ℕ → Planned → Type 0
-PlanBy order Related b before after (Refused why) = (order ≡ checked.Refused why) × (after ≡ before)
-PlanBy order Related b before after (Frames n) = (order ≡ checked.Fine) × (n ≡ length (batch_of b)) × PlanWritten Related (batch_of b) before after
+abbrev pub PlanBy : Checked → (List ℕ → Update → Type 0) → List ℕ → List ℕ → List ℕ → Result ℕ Refusal → Type 0
+PlanBy order Related b before after (Err why) = (order ≡ Err why) × (after ≡ before)
+PlanBy order Related b before after (Ok n) = (order ≡ Fine) × (n ≡ length (batch_of b)) × PlanWritten Related (batch_of b) before after
 
 -- the plan by a relation
-abbrev pub PlanOf : (List ℕ → Update → Type 0) → List ℕ → List ℕ → List ℕ → Planned → Type 0
+abbrev pub PlanOf : (List ℕ → Update → Type 0) → List ℕ → List ℕ → List ℕ → Result ℕ Refusal → Type 0
 PlanOf Related b before = PlanBy (plan_check b (length before)) Related b before
 
 -- a call that names no mode is deep
-abbrev pub Plan : List ℕ → List ℕ → List ℕ → Planned → Type 0
+abbrev pub Plan : List ℕ → List ℕ → List ℕ → Result ℕ Refusal → Type 0
 Plan = PlanOf Deep
 
 -- a call that names its mode by a number: that is checked before the batch
 abbrev pub plan_in_check : ℕ → List ℕ → ℕ → Checked
 plan_in_check m b words = mode_check m then plan_check b words
 
-abbrev pub PlanIn : ℕ → List ℕ → List ℕ → List ℕ → Planned → Type 0
+abbrev pub PlanIn : ℕ → List ℕ → List ℕ → List ℕ → Result ℕ Refusal → Type 0
 PlanIn m b before = PlanBy (plan_in_check m b (length before)) (relation_of (mode_of m)) b before

@@ -1,4 +1,5 @@
 -- The words of a frame, taken alone, are a batch of that frame.
+use Rattle.tables.specs.Checks.{Fine}
 use Prim.Native.Nat.{ℕ, ◌+◌, ◌*◌, ◌-◌, ◌<◌, ◌≤◌}
 use mathlib.Core.Path.{◌≡◌, refl, sym, ◌∙◌}
 use mathlib.Core.Bool.{Bool, true, false}
@@ -8,7 +9,6 @@ use native.Mathlib.Omega.{arith}
 use lib.Dec.{eqb}
 use lib.ListN.{length, get_or, drop}
 use lib.Seq.{get_or-take, get_or-drop, ext_get_or}
-use Rattle.tables.specs.declared.refusal.Checked.TheVariants.{Fine}
 use Rattle.batch_parts.specs.Parts.{part, count}
 use Rattle.batch_frame.specs.Frames.{kind, tree_at, frame_check, end_of}
 use Rattle.batch_frame.proofs.Ending.{steps_end, end_behind}

@@ -1,79 +1,63 @@
 -- The branches of the code, held against those of the definitions.
+use Rattle.std.specs.Prelude.{Option, Some, None, Result, Ok, Err}
 use Prim.Native.Nat.{ℕ, ◌+◌, ◌-◌, ◌<◌, ◌≤◌}
 use mathlib.Core.Path.{◌≡◌}
 use mathlib.Core.List.{List}
-use native.Mathlib.Omega.{arith}
 use lib.ListN.{length}
 use borrow.Author.Tests.{lt-ltb, le-ltb, le-leb, lt-leb}
 use Rattle.tables.specs.Limits.{batch_limit}
+use Rattle.tables.specs.Refusals.{numbered}
 use Rattle.tables.specs.declared.refusal.Refusal.{Refusal}
 use Rattle.batch_parts.specs.Parts.{part}
 use Rattle.batch_frame.specs.Frames.{frame_at}
 use Rattle.outcomes.specs.declared.frames.Extent.{Extent}
-use Rattle.outcomes.specs.declared.frames.Framed.{Framed}
-use Rattle.outcomes.specs.declared.frames.Framed.TheVariants as framed
 use Rattle.batch_walk.specs.Walking.{answer_of, step_at, place_after, number_after, part_at}
-use Rattle.outcomes.specs.declared.frames.Stepped.{Stepped}
-use Rattle.outcomes.specs.declared.frames.Stepped.TheVariants as answer
 
-module _ (b : List ℕ) (n at : ℕ) {got : Framed} (is : got ≡ frame_at b n at) where
-  pub framed_refused : {r : Refusal} → got ≡ framed.Refused r → answer.Refused r ≡ answer_of (frame_at b n at)
+module _ (b : List ℕ) (n at : ℕ) {got : Result Extent Refusal} (is : got ≡ frame_at b n at) where
+  pub framed_refused : {r : Refusal} → got ≡ Err r → Err r ≡ answer_of (frame_at b n at)
   framed_refused e = rw (← is, e)
 
-  pub framed_found : {f : Extent} → got ≡ framed.Found f → answer.Frame f ≡ answer_of (frame_at b n at)
+  pub framed_found : {f : Extent} → got ≡ Ok f → Ok (Some f) ≡ answer_of (frame_at b n at)
   framed_found e = rw (← is, e)
 
 module _ (b : List ℕ) (n at : ℕ) where
-  pub step_long : batch_limit < length b → answer.Refused (record { number = 10; table = 6; place = batch_limit }) ≡ step_at b n at
+  pub step_long : batch_limit < length b → Err (record { reason = numbered 10; table = 6; place = batch_limit }) ≡ step_at b n at
   unfolding step_at
   step_long h = rw (lt-leb (length b) batch_limit h)
 
-  pub step-over : length b ≤ batch_limit → length b ≤ at → answer.Over ≡ step_at b n at
+  pub step-over : length b ≤ batch_limit → length b ≤ at → Ok None ≡ step_at b n at
   unfolding step_at
   step-over h l = rw (le-leb (length b) batch_limit h, le-ltb at (length b) l)
 
-  pub step_frame : {a : Stepped} → length b ≤ batch_limit → at < length b → a ≡ answer_of (frame_at b n at) → a ≡ step_at b n at
+  pub step_frame : {a : Result (Option Extent) Refusal} → length b ≤ batch_limit → at < length b → a ≡ answer_of (frame_at b n at) → a ≡ step_at b n at
   unfolding step_at
   step_frame h l a = rw (le-leb (length b) batch_limit h, lt-ltb at (length b) l) a
 
-module _ (b : List ℕ) (n at : ℕ) {got : Stepped} (is : got ≡ step_at b n at) where
-  pub place_refused : {r : Refusal} → got ≡ answer.Refused r → at ≡ place_after b n at
+module _ (b : List ℕ) (n at : ℕ) {got : Result (Option Extent) Refusal} (is : got ≡ step_at b n at) where
+  pub place_refused : {r : Refusal} → got ≡ Err r → at ≡ place_after b n at
   unfolding place_after
   place_refused e = rw (← is, e)
 
-  pub place_frame : {f : Extent} → got ≡ answer.Frame f → f.next ≡ place_after b n at
+  pub place_frame : {f : Extent} → got ≡ Ok (Some f) → f.next ≡ place_after b n at
   unfolding place_after
   place_frame e = rw (← is, e)
 
-  pub place-over : got ≡ answer.Over → at ≡ place_after b n at
+  pub place-over : got ≡ Ok None → at ≡ place_after b n at
   unfolding place_after
   place-over e = rw (← is, e)
 
-  pub number_refused : {r : Refusal} → got ≡ answer.Refused r → n ≡ number_after b n at
+  pub number_refused : {r : Refusal} → got ≡ Err r → n ≡ number_after b n at
   unfolding number_after
   number_refused e = rw (← is, e)
 
-  pub number_frame : {f : Extent} → got ≡ answer.Frame f → n + 1 ≡ number_after b n at
+  pub number_frame : {f : Extent} → got ≡ Ok (Some f) → n + 1 ≡ number_after b n at
   unfolding number_after
   number_frame e = rw (← is, e)
 
-  pub number-over : got ≡ answer.Over → n ≡ number_after b n at
+  pub number-over : got ≡ Ok None → n ≡ number_after b n at
   unfolding number_after
   number-over e = rw (← is, e)
 
-  -- of no words, whatever the place
-  none : (from : ℕ) → at ≡ place_after b n at → part b from 0 ≡ part_at b n at
-  unfolding part_at
-  none from e =
-      let width : place_after b n at - at ≡ 0 = omega (arith, e) in
-      rw width
-
-  pub part_refused : {r : Refusal} → got ≡ answer.Refused r → part b 0 0 ≡ part_at b n at
-  part_refused e = none 0 (place_refused e)
-
-  pub part_frame : {f : Extent} → got ≡ answer.Frame f → part b at (f.next - at) ≡ part_at b n at
+  pub part_frame : {f : Extent} → got ≡ Ok (Some f) → part b at (f.next - at) ≡ part_at b n at
   unfolding part_at
   part_frame e = rw (place_frame e)
-
-  pub part-over : got ≡ answer.Over → part b 0 0 ≡ part_at b n at
-  part-over e = none 0 (place-over e)

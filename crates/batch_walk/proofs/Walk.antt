@@ -1,4 +1,6 @@
 -- A walk from the front gives the batch's frames, one a call: of an accepted batch all, then none left; else those before the bad one, then its refusal.
+use Rattle.std.specs.Prelude.{Option, Some, None, Result, Ok, Err}
+use Rattle.outcomes.specs.declared.frames.Extent.{Extent}
 use Prim.Native.Nat.{ℕ, zero, suc, ◌+◌, ◌-◌, ◌<◌, ◌≤◌}
 use mathlib.Core.Path.{◌≡◌, refl, sym, subst, ◌∙◌}
 use mathlib.Core.Bool.{Bool, true, false, cond}
@@ -11,10 +13,9 @@ use lib.ListN.{length, take, drop, length-drop}
 use lib.Seq.{take-add, take_all}
 use borrow.Author.Tests.{lt-ltb, le-ltb, le-leb, lt-leb}
 use Rattle.tables.specs.Limits.{batch_limit}
-use Rattle.tables.specs.Checks.{refuse}
+use Rattle.tables.specs.Checks.{refuse, Checked, Fine}
+use Rattle.tables.specs.Refusals.{numbered}
 use Rattle.tables.specs.declared.refusal.Refusal.{Refusal}
-use Rattle.tables.specs.declared.refusal.Checked.{Checked}
-use Rattle.tables.specs.declared.refusal.Checked.TheVariants.{Fine, Refused}
 use Rattle.tables.proofs.Accepted.{never, then_first}
 use Rattle.order.specs.Frames.{At, here, there}
 use Rattle.batch_frame.specs.Frames.{frame_check, end_of, frame_of, answered, frame_at}
@@ -22,8 +23,6 @@ use Rattle.batch_frame.specs.Faults.{named, FaultAt}
 use Rattle.batch_frame.proofs.Faulty.{frame_fault}
 use Rattle.batch_check.specs.Batches.{meaning, frames_from, batch_of, check_from, batch_check}
 use Rattle.batch_check.proofs.Frames.{frames-on, frames_off, check_on}
-use Rattle.outcomes.specs.declared.frames.Stepped.{Stepped}
-use Rattle.outcomes.specs.declared.frames.Stepped.TheVariants as answer
 use Rattle.batch_walk.specs.Walking.{answer_of, step_at, place_after, part_at}
 use Rattle.batch_walk.specs.Walk.{call_place, call_number, call_gives, first_parts, GivesFrame, StopsAt}
 use Rattle.batch_walk.proofs.Given.{frame_from}
@@ -46,9 +45,9 @@ module _ {A : Type 0} where
   left-next (c ∷ l) (suc k) e = left-next l k e
 
 -- what every call behind the last frame that is given gives, by the batch's check
-abbrev ending : Checked → Stepped
-ending Fine = answer.Over
-ending (Refused r) = answer.Refused r
+abbrev ending : Checked → Result (Option Extent) Refusal
+ending (Ok tt) = Ok None
+ending (Err r) = Err r
 
 -- call k is made at this place, with number k: the checks and the frames from there on are what is left of those of the batch
 record MadeAt (b : List ℕ) (k at : ℕ) : Type 0 where
@@ -66,10 +65,10 @@ module _ (b : List ℕ) where
   place-on : (n at : ℕ) → at ≤ place_after b n at
   place-on n at = go (step_at b n at) refl
     where
-      go : (s : Stepped) → step_at b n at ≡ s → at ≤ place_after b n at
-      go (answer.Refused r) e = omega (arith, place_refused b n at refl e)
-      go (answer.Frame f) e = omega (arith, place_frame b n at refl e, frame_from b n at refl e)
-      go answer.Over e = omega (arith, place-over b n at refl e)
+      go : (s : Result (Option Extent) Refusal) → step_at b n at ≡ s → at ≤ place_after b n at
+      go (Err r) e = omega (arith, place_refused b n at refl e)
+      go (Ok (Some f)) e = omega (arith, place_frame b n at refl e, frame_from b n at refl e)
+      go (Ok None) e = omega (arith, place-over b n at refl e)
 
   -- the parts of the first calls are the batch up to where the walk stands
   pub parts_join : (k : ℕ) → first_parts b k ≡ take (call_place b k) b
@@ -82,27 +81,27 @@ module _ (b : List ℕ) where
       rw (parts_join k, ← take-add, whole)
 
   -- none is left only at the end
-  over_end : (n at : ℕ) → step_at b n at ≡ answer.Over → length b ≤ at
+  over_end : (n at : ℕ) → step_at b n at ≡ Ok None → length b ≤ at
   unfolding step_at frame_at
   over_end n at e = go (leb (length b) batch_limit) (dec_lt at (length b)) (frame_check b n at) e
     where
       go : (s : Bool) → Dec (at < length b) → (c : Checked)
-          → cond s (cond (ltb at (length b)) (answer_of (answered c (frame_of b at))) answer.Over)
-          (answer.Refused (record { number = 10; table = 6; place = batch_limit }))
-          ≡ answer.Over
+          → cond s (cond (ltb at (length b)) (answer_of (answered c (frame_of b at))) (Ok None))
+          (Err (record { reason = numbered 10; table = 6; place = batch_limit }))
+          ≡ Ok None
           → length b ≤ at
       go s (no h) c e = omega arith
-      go true (yes h) Fine e = let f = rw (lt-ltb at (length b) h) at e in let z : ◌≡◌ {A = ℕ} 0 1 = cc in absurd (omega arith)
-      go true (yes h) (Refused r) e = let f = rw (lt-ltb at (length b) h) at e in let z : ◌≡◌ {A = ℕ} 0 1 = cc in absurd (omega arith)
+      go true (yes h) (Ok tt) e = let f = rw (lt-ltb at (length b) h) at e in let z : ◌≡◌ {A = ℕ} 0 1 = cc in absurd (omega arith)
+      go true (yes h) (Err r) e = let f = rw (lt-ltb at (length b) h) at e in let z : ◌≡◌ {A = ℕ} 0 1 = cc in absurd (omega arith)
       go false (yes h) c e = let z : ◌≡◌ {A = ℕ} 0 1 = cc in absurd (omega arith)
 
   -- within 16,384 words
   module _ (words : length b ≤ batch_limit) where
-    step_good : (k at : ℕ) → at < length b → frame_check b k at ≡ Fine → step_at b k at ≡ answer.Frame (frame_of b at)
+    step_good : (k at : ℕ) → at < length b → frame_check b k at ≡ Fine → step_at b k at ≡ Ok (Some (frame_of b at))
     unfolding frame_at
     step_good k at h fine = sym (step_frame b k at words h (rw fine))
 
-    step_bad : (k at : ℕ) {r : Refusal} → at < length b → frame_check b k at ≡ Refused r → step_at b k at ≡ answer.Refused r
+    step_bad : (k at : ℕ) {r : Refusal} → at < length b → frame_check b k at ≡ Err r → step_at b k at ≡ Err r
     unfolding frame_at
     step_bad k at h why = sym (step_frame b k at words h (rw why))
 
@@ -169,21 +168,21 @@ module _ (b : List ℕ) where
               on (yes l) = gives_here r l (fine_here r l)
               on (no l) = absurd (omega (arith, gone r (omega arith)))
 
-      ends : call_gives b (length (batch_of b)) ≡ answer.Over
+      ends : call_gives b (length (batch_of b)) ≡ Ok None
       ends = go (reach (length (batch_of b)) (omega arith))
         where
-          go : (at : ℕ) × MadeAt b (length (batch_of b)) at → call_gives b (length (batch_of b)) ≡ answer.Over
+          go : (at : ℕ) × MadeAt b (length (batch_of b)) at → call_gives b (length (batch_of b)) ≡ Ok None
           go (at, r) = on (dec_lt at (length b))
             where
-              on : Dec (at < length b) → call_gives b (length (batch_of b)) ≡ answer.Over
+              on : Dec (at < length b) → call_gives b (length (batch_of b)) ≡ Ok None
               on (yes l) = absurd (omega (arith, more r l))
               on (no l) = rw (r.number, r.place) (sym (step-over b (length (batch_of b)) at words (omega arith)))
 
   -- what a walk ends with, every later call gives again
   again : (c : Checked) (k : ℕ) → call_gives b k ≡ ending c → call_gives b (suc k) ≡ ending c
   unfolding call_place call_number
-  again (Refused r) k e = refused_stays b (call_number b k) (call_place b k) e
-  again Fine k e = over-stays b (call_number b k) (call_place b k) e
+  again (Err r) k e = refused_stays b (call_number b k) (call_place b k) e
+  again (Ok tt) k e = over-stays b (call_number b k) (call_place b k) e
 
   stays : (c : Checked) (last : ℕ) → call_gives b last ≡ ending c → (k : ℕ) → last ≤ k → call_gives b k ≡ ending c
   stays c last e zero h = let same : 0 ≡ last = omega arith in rw same e
@@ -195,15 +194,15 @@ module _ (b : List ℕ) where
 
   -- of a refused one every frame before the bad one is given, and from there on its refusal
   module _ (words : length b ≤ batch_limit) {why : Refusal} where
-    bad_here : {k at : ℕ} → MadeAt b k at → ((j : ℕ) → j < k → GivesFrame b j) → at < length b → frame_check b k at ≡ Refused why → StopsAt b why
+    bad_here : {k at : ℕ} → MadeAt b k at → ((j : ℕ) → j < k → GivesFrame b j) → at < length b → frame_check b k at ≡ Err why → StopsAt b why
     bad_here {k} {at} r earlier h refused = record {
       frame = k;
       before = earlier;
-      refused = stays (Refused why) k (rw (r.number, r.place) (step_bad words k at h refused));
+      refused = stays (Err why) k (rw (r.number, r.place) (step_bad words k at h refused));
       fault = subst (λ (x : ℕ). FaultAt b k x why) (sym r.place) (frame_fault b k at h refused);
     }
 
-    stop : {k at : ℕ} (most : ℕ) → MadeAt b k at → ((j : ℕ) → j < k → GivesFrame b j) → check_from b k at most ≡ Refused why → StopsAt b why
+    stop : {k at : ℕ} (most : ℕ) → MadeAt b k at → ((j : ℕ) → j < k → GivesFrame b j) → check_from b k at most ≡ Err why → StopsAt b why
     unfolding check_from
     stop zero r earlier e = never e refl
     stop {k} {at} (suc most) r earlier e = go (dec_lt at (length b)) (frame_check b k at) refl (λ later given f. stop {k = suc k} {at = end_of b at} most later given f)
@@ -216,14 +215,14 @@ module _ (b : List ℕ) where
             on (no above) = let same : j ≡ k = omega arith in rw same (gives_here words r h fine)
 
         go : Dec (at < length b) → (c : Checked) → frame_check b k at ≡ c
-            → (MadeAt b (suc k) (end_of b at) → ((j : ℕ) → j < suc k → GivesFrame b j) → check_from b (suc k) (end_of b at) most ≡ Refused why → StopsAt b why)
+            → (MadeAt b (suc k) (end_of b at) → ((j : ℕ) → j < suc k → GivesFrame b j) → check_from b (suc k) (end_of b at) most ≡ Err why → StopsAt b why)
             → StopsAt b why
-        go (yes h) Fine fine further = further (next words r h fine) (one_more h fine) (rw (lt-ltb at (length b) h, fine) at e)
-        go (yes h) (Refused w) is further =
-            let same : Refused w ≡ Refused why = rw (lt-ltb at (length b) h, is) at e in
+        go (yes h) (Ok tt) fine further = further (next words r h fine) (one_more h fine) (rw (lt-ltb at (length b) h, fine) at e)
+        go (yes h) (Err w) is further =
+            let same : Err w ≡ Err why = rw (lt-ltb at (length b) h, is) at e in
             bad_here r earlier h (is ∙ same)
         go (no h) c is further =
-            let none : Fine ≡ Refused why = rw (le-ltb at (length b) (omega arith)) at e in
+            let none : Fine ≡ Err why = rw (le-ltb at (length b) (omega arith)) at e in
             never none refl
 
   -- within the limit the batch's check is that of its frames; over it no frame is given
@@ -247,7 +246,7 @@ module _ (b : List ℕ) where
     pub walk_frames : (k : ℕ) → k < length (batch_of b) → GivesFrame b k
     walk_frames = gives words_few (within Fine fine words_few)
 
-    pub walk_over : (k : ℕ) → length (batch_of b) ≤ k → call_gives b k ≡ answer.Over
+    pub walk_over : (k : ℕ) → length (batch_of b) ≤ k → call_gives b k ≡ Ok None
     walk_over = stays Fine (length (batch_of b)) (ends words_few (within Fine fine words_few))
 
     -- and then the parts are the whole batch
@@ -256,8 +255,8 @@ module _ (b : List ℕ) where
         rw (parts_join k) (take_all (call_place b k) b (over_end (call_number b k) (call_place b k) (walk_over k h)))
 
   -- a refused one within the limit stops the walk at one frame; over the limit every call is refused
-  pub walk_stops : {why : Refusal} → batch_check b ≡ Refused why → length b ≤ batch_limit → StopsAt b why
-  walk_stops {why} refused words = stop words (length b) front (λ j h. absurd (omega arith)) (within (Refused why) refused words)
+  pub walk_stops : {why : Refusal} → batch_check b ≡ Err why → length b ≤ batch_limit → StopsAt b why
+  walk_stops {why} refused words = stop words (length b) front (λ j h. absurd (omega arith)) (within (Err why) refused words)
 
-  pub walk_long : batch_limit < length b → (batch_check b ≡ refuse 10 6 batch_limit) × ((k : ℕ) → call_gives b k ≡ answer.Refused (named 10 batch_limit))
+  pub walk_long : batch_limit < length b → (batch_check b ≡ refuse 10 6 batch_limit) × ((k : ℕ) → call_gives b k ≡ Err (named 10 batch_limit))
   walk_long long = (over long, λ k. long_always b (call_number b k) (call_place b k) long)

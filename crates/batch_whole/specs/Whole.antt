@@ -1,8 +1,7 @@
 -- Inside: a frame that takes all words from its place on.
 use Rattle.std.specs.Prelude.{ℕ, List, eqb, leb, length}
 use Rattle.tables.specs.Limits.{batch_limit}
-use Rattle.tables.specs.Checks.{◌then◌, test, refuse}
-use Rattle.tables.specs.declared.refusal.Checked.{Checked}
+use Rattle.tables.specs.Checks.{◌then◌, test, refuse, Checked}
 use Rattle.batch_frame.specs.Frames.{end_of, frame_check}
 
 -- 10 for words, as a frame, words left over

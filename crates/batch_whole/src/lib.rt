@@ -5,24 +5,19 @@ ghost use Rattle.std.specs.Prelude.{◌≡◌};
 ghost use Rattle.batch_whole.specs.Whole.{whole_check};
 
 use batch_frame::read_frame;
-use outcomes::frames::Framed;
 use tables::limits::BATCH_LIMIT;
-use tables::refusal::{Checked, refused};
+use tables::refusal::{Reason, Refusal, refused};
 
 // The words of all frames, the last one's from a place on: 10 for words, as a frame, words left over.
-pub fn frame_checked(b: &[u16], n: usize, at: usize) -> Checked
+pub fn frame_checked(b: &[u16], n: usize, at: usize) -> Result<(), Refusal>
     ensures { result ≡ whole_check b.now n at }
 {
     if BATCH_LIMIT < b.len() {
-        return refused(10, 6, BATCH_LIMIT);
+        return refused(Reason::Batch, 6, BATCH_LIMIT);
     }
-    match read_frame(b, n, at) {
-        Framed::Refused(r) => Checked::Refused(r),
-        Framed::Found(f) => {
-            if f.next == b.len() {
-                return Checked::Fine;
-            }
-            refused(9, 6, f.next)
-        }
+    let f = read_frame(b, n, at)?;
+    if f.next == b.len() {
+        return Ok(());
     }
+    refused(Reason::Ends, 6, f.next)
 }

@@ -1,13 +1,14 @@
 -- The numbers that go out: a refusal as its number, table and place, else values.
 use Rattle.std.specs.Prelude.{ℕ, ◌≡◌}
 use Rattle.tables.specs.declared.refusal.Refusal.{Refusal}
+use Rattle.tables.specs.Refusals.{number}
 use Rattle.c_answer.specs.declared.answer.Answer.{Answer}
 
 -- a refusal: its number, the table at fault and the place, and no values
 abbrev pub refusing : Refusal → Answer
 refusing r =
     record {
-      refusal = r.number;
+      refusal = number r.reason;
       table = r.table;
       place = r.place;
       first = 0;

@@ -22,7 +22,7 @@ pub fn refusing(r: Refusal) -> Answer
     ensures { result ≡ refusing r }
 {
     Answer {
-        refusal: r.number,
+        refusal: r.reason.number(),
         table: r.table,
         place: r.place,
         first: 0,

@@ -1,4 +1,5 @@
 -- Numbers that are 0 exactly where every node is right; and what a walk then answers.
+use Rattle.std.specs.Prelude.{Err}
 use Prim.Native.Nat.{ℕ, ◌+◌, ◌<◌, ◌≤◌}
 use mathlib.Core.Path.{◌≡◌, refl, sym}
 use mathlib.Core.Bool.{Bool, true, false, false≢true}
@@ -11,10 +12,8 @@ use native.Mathlib.Omega.{arith}
 use borrow.Author.Count.{below_none, below_more}
 use borrow.Author.Tests.{eq-eqb, ne_eqb, eqb-true, eqb-false, lt-ltb, ltb-true, lt-leb, leb-false}
 use Rattle.tables.specs.declared.refusal.Refusal.{Refusal}
-use Rattle.tables.specs.declared.refusal.Checked.{Checked}
-use Rattle.tables.specs.declared.refusal.Checked.TheVariants.{Fine, Refused}
 use Rattle.tables.specs.Words.{parent, tag}
-use Rattle.tables.specs.Checks.{◌then◌, test, each, parent_right, node_check}
+use Rattle.tables.specs.Checks.{◌then◌, test, each, parent_right, node_check, Checked, Fine}
 use Rattle.tables.proofs.Accepted.{never, each_all}
 
 -- a is 0 exactly where P holds of each number below n
@@ -47,7 +46,7 @@ wrong_none {u = u} {bound = bound} {label = label} first second = (
   λ h. omega (arith, first.1 (lt-leb bound u h.0), second.1 (ne_eqb label 0 (λ z. omega arith))),
 )
 
-both_held : (a b : Bool) (r s : Refusal) → (test a (Refused r) then test b (Refused s)) ≡ Fine → (a ≡ true) × (b ≡ true)
+both_held : (a b : Bool) (r s : Refusal) → (test a (Err r) then test b (Err s)) ≡ Fine → (a ≡ true) × (b ≡ true)
 both_held true true r s e = (refl, refl)
 both_held true false r s e = never refl e
 both_held false b r s e = never refl e

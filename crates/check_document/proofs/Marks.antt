@@ -1,4 +1,5 @@
 -- Numbers that are 0 exactly where every mark is 0, or every mark right; and what the marks' check then answers.
+use Rattle.std.specs.Prelude.{Err}
 use Prim.Native.Nat.{ℕ, zero, suc, max, ◌+◌, ◌<◌, ◌≤◌}
 use mathlib.Core.Path.{◌≡◌, refl, sym}
 use mathlib.Core.Bool.{Bool, true, false, and-eq-true_iff}
@@ -11,22 +12,20 @@ use native.Mathlib.Nat.{zero-add}
 use native.Mathlib.Omega.{arith}
 use borrow.Author.Tests.{ne_eqb, eqb-true, le-ltb, ltb-false, le-leb, leb-true}
 use Rattle.tables.specs.declared.refusal.Refusal.{Refusal}
-use Rattle.tables.specs.declared.refusal.Checked.{Checked}
-use Rattle.tables.specs.declared.refusal.Checked.TheVariants.{Fine, Refused}
 use Rattle.tables.specs.Words.{parent}
-use Rattle.tables.specs.Checks.{refuse, ◌then◌, test, each, node_check, mark_right, mark_check}
+use Rattle.tables.specs.Checks.{refuse, ◌then◌, test, each, node_check, mark_right, mark_check, Checked, Fine}
 use Rattle.tables.proofs.Accepted.{held, each_fine}
 use Rattle.tables.proofs.Soundness.{node_falls}
 use Rattle.check_document.proofs.Counts.{ZeroWhere, zero_start, zero_more, all_fine}
 
 -- one refusal for every test: a walk that is not fine answers it
 module _ (right : ℕ → Bool) (r : Refusal) where
-  pub each_same : (v k : ℕ) → (each (λ i. test (right i) (Refused r)) v k ≡ Fine → ⊥) → each (λ i. test (right i) (Refused r)) v k ≡ Refused r
+  pub each_same : (v k : ℕ) → (each (λ i. test (right i) (Err r)) v k ≡ Fine → ⊥) → each (λ i. test (right i) (Err r)) v k ≡ Err r
   unfolding each
   each_same v zero bad = absurd (bad refl)
   each_same v (suc k) bad = go (right v) (each_same (suc v) k) bad
     where
-      go : (b : Bool) {rest : Checked} → ((rest ≡ Fine → ⊥) → rest ≡ Refused r) → ((test b (Refused r) then rest) ≡ Fine → ⊥) → (test b (Refused r) then rest) ≡ Refused r
+      go : (b : Bool) {rest : Checked} → ((rest ≡ Fine → ⊥) → rest ≡ Err r) → ((test b (Err r) then rest) ≡ Fine → ⊥) → (test b (Err r) then rest) ≡ Err r
       go true on bad = on bad
       go false on bad = refl
 

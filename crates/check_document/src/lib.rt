@@ -4,13 +4,12 @@
 ghost use Rattle.std.specs.Prelude.{ℕ, max, ◌<◌, ◌≤◌, ◌≡◌, false, ◌↔◌, length, get_or};
 ghost use Rattle.tables.specs.Limits.{used_limit};
 ghost use Rattle.tables.specs.Words.{nodes};
-ghost use Rattle.tables.specs.declared.refusal.Checked.TheVariants.{Fine};
 ghost use Rattle.tables.specs.Documents.{doc};
-ghost use Rattle.tables.specs.Checks.{each, node_check, used_right, shape_check, mark_check, document_check};
+ghost use Rattle.tables.specs.Checks.{each, node_check, used_right, shape_check, mark_check, document_check, Fine};
 
 use check_tree::nodes;
 use tables::limits::USED_LIMIT;
-use tables::refusal::{Checked, refused};
+use tables::refusal::{Reason, Refusal, refused};
 
 // Whether a used count is right for a table of so many words and a row of so many marks.
 fn used_right(words: usize, marks: usize, used: usize) -> bool
@@ -48,21 +47,19 @@ fn wrongs(t: &[u16], used: usize) -> u16
     ensures { (result ≡ 0) ↔ ((v : ℕ) → v < used → node_check t.now 5 v ≡ Fine) }
 {
     let mut count = wrong(t[0], 1, t[1]);
-    let mut v = 1;
-    while v < used {
+    for v in 1..used {
         count += wrong(t[2 * v], v as u16, t[2 * v + 1]);
-        v += 1;
     }
     count
 }
 
 // The first of the used nodes that is wrong.
-fn used_nodes(t: &[u16], used: usize) -> Checked
+fn used_nodes(t: &[u16], used: usize) -> Result<(), Refusal>
     requires { (0 < used) × (used ≤ used_limit) × (used ≤ nodes t.now) }
     ensures { result ≡ each (node_check t.now 5) 0 used }
 {
     if wrongs(t, used) == 0 {
-        return Checked::Fine;
+        return Ok(());
     }
     nodes(t, 5, used)
 }
@@ -83,10 +80,8 @@ fn greatest(m: &[u8], used: usize) -> u8
     ensures { (result ≡ 0) ↔ ((v : ℕ) → v < used → get_or m.now v 0 ≡ 0) }
 {
     let mut most = 0;
-    let mut v = 0;
-    while v < used {
+    for v in 0..used {
         most = greater(most, m[v]);
-        v += 1;
     }
     most
 }
@@ -104,44 +99,40 @@ fn wrong_marks(t: &[u16], m: &[u8], used: usize) -> u16
     ensures { (result ≡ 0) ↔ ((v : ℕ) → v < used → mark_check t.now m.now v ≡ Fine) }
 {
     let mut count = one(0 < m[0]);
-    let mut node = 1;
-    while node < used {
+    for node in 1..used {
         count += wrong_mark(m[node], m[t[2 * node] as usize]);
-        node += 1;
     }
     count
 }
 
 // The used nodes' marks, where the nodes are right: one refusal, whichever mark is wrong.
-fn used_marks(t: &[u16], m: &[u8], used: usize) -> Checked
+fn used_marks(t: &[u16], m: &[u8], used: usize) -> Result<(), Refusal>
     requires { (0 < used) × (used ≤ used_limit) × (used ≤ nodes t.now) × (used ≤ length m.now) × (each (node_check t.now 5) 0 used ≡ Fine) }
     ensures { result ≡ each (mark_check t.now m.now) 0 used }
 {
     if greatest(m, used) == 0 {
-        return Checked::Fine;
+        return Ok(());
     }
     if wrong_marks(t, m, used) == 0 {
-        return Checked::Fine;
+        return Ok(());
     }
-    refused(12, 5, 0)
+    refused(Reason::Document, 5, 0)
 }
 
 // The shape of a document: 12 for the used count, then node by node 4 then 5. No mark is looked at.
-pub fn shape(rows: &[u16], marks: &[u8], used: usize) -> Checked
+pub fn shape(rows: &[u16], marks: &[u8], used: usize) -> Result<(), Refusal>
     ensures { result ≡ shape_check (doc rows.now marks.now used) }
 {
     if !used_right(rows.len(), marks.len(), used) {
-        return refused(12, 5, 0);
+        return refused(Reason::Document, 5, 0);
     }
     used_nodes(rows, used)
 }
 
 // A document: 12 for the used count, node by node 4 then 5, 12 for marks.
-pub fn document(rows: &[u16], marks: &[u8], used: usize) -> Checked
+pub fn document(rows: &[u16], marks: &[u8], used: usize) -> Result<(), Refusal>
     ensures { result ≡ document_check (doc rows.now marks.now used) }
 {
-    match shape(rows, marks, used) {
-        Checked::Fine => used_marks(rows, marks, used),
-        Checked::Refused(r) => Checked::Refused(r),
-    }
+    shape(rows, marks, used)?;
+    used_marks(rows, marks, used)
 }

@@ -6,9 +6,7 @@ use lib.Dec.{ltb}
 use borrow.Author.Tests.{ltb-true}
 use Rattle.tables.specs.Limits.{tree_limit}
 use Rattle.tables.specs.Words.{steps}
-use Rattle.tables.specs.declared.refusal.Checked.{Checked}
-use Rattle.tables.specs.declared.refusal.Checked.TheVariants.{Fine}
-use Rattle.tables.specs.Checks.{refuse, ◌then◌, test, tree_check}
+use Rattle.tables.specs.Checks.{refuse, ◌then◌, test, tree_check, Checked, Fine}
 use Rattle.tables.proofs.Accepted.{held, then_first, then_second, then_both}
 use Rattle.check_verdict.specs.Order.{patterns_check, deep_delete_check, deep_insert_check}
 use Rattle.check_evidence.specs.Order.{delete_evidence_check, insert_evidence_check}

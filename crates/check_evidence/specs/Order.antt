@@ -3,8 +3,7 @@
 use Rattle.std.specs.Prelude.{ℕ, List, ltb}
 use Rattle.tables.specs.Limits.{tree_limit}
 use Rattle.tables.specs.Words.{steps}
-use Rattle.tables.specs.declared.refusal.Checked.{Checked}
-use Rattle.tables.specs.Checks.{refuse, ◌then◌, test, tree_check}
+use Rattle.tables.specs.Checks.{refuse, ◌then◌, test, tree_check, Checked}
 use Rattle.conflict.specs.Conflict.{Update, delete, insert}
 use Rattle.check_verdict.specs.Order.{patterns_check}
 

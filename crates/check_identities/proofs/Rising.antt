@@ -10,8 +10,7 @@ use native.Mathlib.Omega.{arith}
 use lib.Dec.{eqb, ltb, leb}
 use lib.ListN.{length, get_or}
 use borrow.Author.Tests.{eq-eqb, ne_eqb, lt-ltb, ltb-true, le-leb, lt-leb, leb-false}
-use Rattle.tables.specs.declared.refusal.Checked.TheVariants.{Fine}
-use Rattle.tables.specs.Checks.{refuse, each}
+use Rattle.tables.specs.Checks.{refuse, each, Fine}
 use Rattle.tables.proofs.Accepted.{held, each_fine}
 use Rattle.check_document.proofs.Counts.{ZeroWhere, zero_start, zero_more, all_fine}
 use Rattle.check_document.proofs.Marks.{each_same}

@@ -5,7 +5,7 @@ ghost use Rattle.std.specs.Prelude.{◌≡◌};
 ghost use Rattle.tables.specs.Checks.{each, axis_right, axis_check, pattern_check};
 
 use check_size::sized;
-use tables::refusal::{Checked, refused};
+use tables::refusal::{Reason, Refusal, refused};
 use tables::words::first_word;
 
 // Whether step i's axis is right: 0 for the first, 1 or 2 for a later one.
@@ -23,26 +23,22 @@ fn axis_right(p: &[u16], i: usize) -> bool
 }
 
 // The first of n steps whose axis is wrong.
-fn axes(p: &[u16], table: usize, n: usize) -> Checked
+fn axes(p: &[u16], table: usize, n: usize) -> Result<(), Refusal>
     ensures { result ≡ each (axis_check p.now table) 0 n }
 {
-    let mut i = 0;
-    while i < n {
+    for i in 0..n {
         if !axis_right(p, i) {
-            return refused(3, table, i);
+            return refused(Reason::Axis, table, i);
         }
-        i += 1;
     }
-    Checked::Fine
+    Ok(())
 }
 
 // A pattern of at most `limit` steps: refusals 1, 2, 3.
-pub fn pattern(p: &[u16], limit: usize, table: usize) -> Checked
+pub fn pattern(p: &[u16], limit: usize, table: usize) -> Result<(), Refusal>
     ensures { result ≡ pattern_check p.now limit table }
 {
     let n = p.len();
-    match sized(n, limit, table) {
-        Checked::Fine => axes(p, table, n / 2),
-        Checked::Refused(r) => Checked::Refused(r),
-    }
+    sized(n, limit, table)?;
+    axes(p, table, n / 2)
 }

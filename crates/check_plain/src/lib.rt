@@ -10,24 +10,20 @@ use check_pattern::pattern;
 use check_size::output;
 use check_tree::tree;
 use tables::limits::{PLAIN_NODES, PLAIN_STEPS};
-use tables::refusal::Checked;
+use tables::refusal::Refusal;
 
 // The checks behind the tree's: the pattern, then the row.
-fn pattern_and_row(p: &[u16], n: usize, bytes: usize) -> Checked
+fn pattern_and_row(p: &[u16], n: usize, bytes: usize) -> Result<(), Refusal>
     ensures { result ≡ (pattern_check p.now plain_steps 1 then output_check n bytes) }
 {
-    match pattern(p, PLAIN_STEPS, 1) {
-        Checked::Fine => output(n, bytes),
-        Checked::Refused(r) => Checked::Refused(r),
-    }
+    pattern(p, PLAIN_STEPS, 1)?;
+    output(n, bytes)
 }
 
 // The checks of the plain reading, for a row of so many bytes.
-pub fn checked(p: &[u16], t: &[u16], bytes: usize) -> Checked
+pub fn checked(p: &[u16], t: &[u16], bytes: usize) -> Result<(), Refusal>
     ensures { result ≡ plain_check p.now t.now bytes }
 {
-    match tree(t, PLAIN_NODES, 5) {
-        Checked::Fine => pattern_and_row(p, t.len() / 2, bytes),
-        Checked::Refused(r) => Checked::Refused(r),
-    }
+    tree(t, PLAIN_NODES, 5)?;
+    pattern_and_row(p, t.len() / 2, bytes)
 }

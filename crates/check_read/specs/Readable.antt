@@ -2,8 +2,7 @@
 use Rattle.std.specs.Prelude.{ℕ, List}
 use Rattle.tables.specs.Limits.{step_limit}
 use Rattle.tables.specs.Documents.{Doc}
-use Rattle.tables.specs.Checks.{◌then◌, document_check, pattern_check, output_check}
-use Rattle.tables.specs.declared.refusal.Checked.{Checked}
+use Rattle.tables.specs.Checks.{◌then◌, document_check, pattern_check, output_check, Checked}
 use Rattle.identities.specs.Documents.{Document}
 use Rattle.identities.specs.Checks.{whole_check}
 

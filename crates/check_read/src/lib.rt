@@ -11,16 +11,14 @@ use check_document::document;
 use check_pattern::pattern;
 use check_size::output;
 use tables::limits::STEP_LIMIT;
-use tables::refusal::Checked;
+use tables::refusal::Refusal;
 
 // The pattern's refusals, then 7 for a row of fewer bytes than used nodes.
-fn asked(p: &[u16], table: usize, used: usize, bytes: usize) -> Checked
+fn asked(p: &[u16], table: usize, used: usize, bytes: usize) -> Result<(), Refusal>
     ensures { result ≡ (pattern_check p.now step_limit table then output_check used bytes) }
 {
-    match pattern(p, STEP_LIMIT, table) {
-        Checked::Fine => output(used, bytes),
-        Checked::Refused(r) => Checked::Refused(r),
-    }
+    pattern(p, STEP_LIMIT, table)?;
+    output(used, bytes)
 }
 
 // The refusals of a read: the document's, the pattern's, then 7.
@@ -31,11 +29,9 @@ pub fn checked(
     marks: &[u8],
     used: usize,
     bytes: usize,
-) -> Checked
+) -> Result<(), Refusal>
     ensures { result ≡ read_tables_check p.now table (doc rows.now marks.now used) bytes }
 {
-    match document(rows, marks, used) {
-        Checked::Fine => asked(p, table, used, bytes),
-        Checked::Refused(r) => Checked::Refused(r),
-    }
+    document(rows, marks, used)?;
+    asked(p, table, used, bytes)
 }

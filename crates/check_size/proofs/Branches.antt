@@ -3,8 +3,8 @@ use Prim.Native.Nat.{ℕ, ◌/◌, ◌%◌, ◌<◌, ◌≤◌}
 use mathlib.Core.Path.{◌≡◌}
 use borrow.Author.Tests.{eq-eqb, ne_eqb, lt-ltb, le-leb, lt-leb}
 use native.Mathlib.Nat.{pos_of_ne-zero}
-use Rattle.tables.specs.declared.refusal.Checked.{Checked}
-use Rattle.tables.specs.declared.refusal.Checked.TheVariants.{Fine}
+use Rattle.tables.specs.Checks.{Checked}
+use Rattle.tables.specs.Checks.{Fine}
 use Rattle.tables.specs.Checks.{refuse, size_check, output_check}
 
 module _ {answer : Checked} (n limit table : ℕ) where

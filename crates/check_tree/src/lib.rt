@@ -6,7 +6,7 @@ ghost use Rattle.tables.specs.Words.{tag};
 ghost use Rattle.tables.specs.Checks.{each, parent_right, node_check, tree_check};
 
 use check_size::sized;
-use tables::refusal::{Checked, refused};
+use tables::refusal::{Reason, Refusal, refused};
 use tables::words::{first_word, second_word};
 
 // Whether node v's parent is right: 0 for the root, less than v for every other node.
@@ -28,29 +28,25 @@ fn named(t: &[u16], v: usize) -> bool
 }
 
 // The first of n nodes whose parent or label is wrong, the parent before the label.
-pub fn nodes(t: &[u16], table: usize, n: usize) -> Checked
+pub fn nodes(t: &[u16], table: usize, n: usize) -> Result<(), Refusal>
     ensures { result ≡ each (node_check t.now table) 0 n }
 {
-    let mut v = 0;
-    while v < n {
+    for v in 0..n {
         if !parent_right(t, v) {
-            return refused(4, table, v);
+            return refused(Reason::Parent, table, v);
         }
         if !named(t, v) {
-            return refused(5, table, v);
+            return refused(Reason::Label, table, v);
         }
-        v += 1;
     }
-    Checked::Fine
+    Ok(())
 }
 
 // A tree of at most `limit` nodes: refusals 1, 2, then node by node 4 before 5.
-pub fn tree(t: &[u16], limit: usize, table: usize) -> Checked
+pub fn tree(t: &[u16], limit: usize, table: usize) -> Result<(), Refusal>
     ensures { result ≡ tree_check t.now limit table }
 {
     let n = t.len();
-    match sized(n, limit, table) {
-        Checked::Fine => nodes(t, table, n / 2),
-        Checked::Refused(r) => Checked::Refused(r),
-    }
+    sized(n, limit, table)?;
+    nodes(t, table, n / 2)
 }

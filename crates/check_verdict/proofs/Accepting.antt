@@ -9,9 +9,7 @@ use borrow.Author.Tests.{lt-ltb, le-ltb, le-leb, lt-leb, leb-true, ltb-true}
 use Rattle.tables.specs.Limits.{step_limit, tree_limit}
 use Rattle.tables.specs.Words.{steps}
 use Rattle.tables.specs.Patterns.{Pattern}
-use Rattle.tables.specs.declared.refusal.Checked.{Checked}
-use Rattle.tables.specs.declared.refusal.Checked.TheVariants.{Fine}
-use Rattle.tables.specs.Checks.{refuse, test, pattern_check, tree_check}
+use Rattle.tables.specs.Checks.{refuse, test, pattern_check, tree_check, Checked, Fine}
 use Rattle.tables.proofs.Accepted.{held, then_first, then_second}
 use Rattle.tables.proofs.Soundness.{accepted_pattern, accepted_steps}
 use Rattle.conflict.specs.Conflict.{Update, delete, insert}

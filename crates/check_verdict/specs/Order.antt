@@ -2,8 +2,7 @@
 use Rattle.std.specs.Prelude.{ℕ, ◌+◌, ◌*◌, ◌-◌, List, ltb, leb}
 use Rattle.tables.specs.Limits.{step_limit, tree_limit}
 use Rattle.tables.specs.Words.{steps}
-use Rattle.tables.specs.declared.refusal.Checked.{Checked}
-use Rattle.tables.specs.Checks.{refuse, ◌then◌, test, pattern_check, tree_check}
+use Rattle.tables.specs.Checks.{refuse, ◌then◌, test, pattern_check, tree_check, Checked}
 use Rattle.conflict.specs.Conflict.{Update, delete, insert}
 
 -- the words that the output must have: two a node of the longest witness

@@ -9,76 +9,66 @@ ghost use Rattle.check_verdict.specs.Order.{room_check, patterns_check, deep_del
 use check_pattern::pattern;
 use check_tree::tree;
 use tables::limits::{STEP_LIMIT, TREE_LIMIT};
-use tables::refusal::{Checked, refused};
+use tables::refusal::{Reason, Refusal, refused};
 
 // Whether an output of so many words is long enough: refusal 7.
-fn room(r: &[u16], p: &[u16], words: usize) -> Checked
+fn room(r: &[u16], p: &[u16], words: usize) -> Result<(), Refusal>
     ensures { result ≡ room_check r.now p.now words }
 {
     let m = r.len() / 2;
     let n = p.len() / 2;
     if words / 2 + 1 < m + n {
-        return refused(7, 4, 0);
+        return refused(Reason::Output, 4, 0);
     }
-    Checked::Fine
+    Ok(())
 }
 
 // The read, then the update.
-pub fn patterns_check(r: &[u16], p: &[u16]) -> Checked
+pub fn patterns_check(r: &[u16], p: &[u16]) -> Result<(), Refusal>
     ensures { result ≡ patterns_check r.now p.now }
 {
-    match pattern(r, STEP_LIMIT, 1) {
-        Checked::Fine => pattern(p, STEP_LIMIT, 2),
-        Checked::Refused(why) => Checked::Refused(why),
-    }
+    pattern(r, STEP_LIMIT, 1)?;
+    pattern(p, STEP_LIMIT, 2)
 }
 
 // A delete has more than one step: refusal 6.
-pub fn two_steps(p: &[u16]) -> Checked
+pub fn two_steps(p: &[u16]) -> Result<(), Refusal>
     ensures { result ≡ test (ltb 1 (steps p.now)) (refuse 6 2 0) }
 {
     if p.len() / 2 <= 1 {
-        return refused(6, 2, 0);
+        return refused(Reason::OneStep, 2, 0);
     }
-    Checked::Fine
+    Ok(())
 }
 
 // A read and a delete.
-pub fn deep_delete_check(r: &[u16], p: &[u16]) -> Checked
+pub fn deep_delete_check(r: &[u16], p: &[u16]) -> Result<(), Refusal>
     ensures { result ≡ deep_delete_check r.now p.now }
 {
-    match patterns_check(r, p) {
-        Checked::Fine => two_steps(p),
-        Checked::Refused(why) => Checked::Refused(why),
-    }
+    patterns_check(r, p)?;
+    two_steps(p)
 }
 
 // A read and an insert.
-pub fn deep_insert_check(r: &[u16], p: &[u16], x: &[u16]) -> Checked
+pub fn deep_insert_check(r: &[u16], p: &[u16], x: &[u16]) -> Result<(), Refusal>
     ensures { result ≡ deep_insert_check r.now p.now x.now }
 {
-    match patterns_check(r, p) {
-        Checked::Fine => tree(x, TREE_LIMIT, 3),
-        Checked::Refused(why) => Checked::Refused(why),
-    }
+    patterns_check(r, p)?;
+    tree(x, TREE_LIMIT, 3)
 }
 
 // A read and a delete, and an output of so many words.
-pub fn delete_check(r: &[u16], p: &[u16], words: usize) -> Checked
+pub fn delete_check(r: &[u16], p: &[u16], words: usize) -> Result<(), Refusal>
     ensures { result ≡ delete_verdict_check r.now p.now words }
 {
-    match deep_delete_check(r, p) {
-        Checked::Fine => room(r, p, words),
-        Checked::Refused(why) => Checked::Refused(why),
-    }
+    deep_delete_check(r, p)?;
+    room(r, p, words)
 }
 
 // A read and an insert, and an output of so many words.
-pub fn insert_check(r: &[u16], p: &[u16], x: &[u16], words: usize) -> Checked
+pub fn insert_check(r: &[u16], p: &[u16], x: &[u16], words: usize) -> Result<(), Refusal>
     ensures { result ≡ insert_verdict_check r.now p.now x.now words }
 {
-    match deep_insert_check(r, p, x) {
-        Checked::Fine => room(r, p, words),
-        Checked::Refused(why) => Checked::Refused(why),
-    }
+    deep_insert_check(r, p, x)?;
+    room(r, p, words)
 }

@@ -1,8 +1,8 @@
 -- A document that meets no refusal, its identities among them, meets none after a compaction, and has the room that it had.
+use Rattle.tables.specs.Checks.{Fine}
 use mathlib.Core.Path.{◌≡◌}
 use native.Mathlib.Omega.{arith}
 use Rattle.tables.specs.Documents.{Sound}
-use Rattle.tables.specs.declared.refusal.Checked.TheVariants.{Fine}
 use Rattle.tables.proofs.Soundness.{used_facts}
 use Rattle.identities.specs.Documents.{Document}
 use Rattle.identities.specs.Checks.{whole_check}

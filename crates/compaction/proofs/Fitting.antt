@@ -1,4 +1,5 @@
 -- The room that a compaction gives back is used by later inserts.
+use Rattle.tables.specs.Checks.{Fine}
 use Prim.Native.Nat.{ℕ, ◌+◌, ◌≤◌}
 use mathlib.Core.Path.{◌≡◌}
 use mathlib.Core.Bool.{true}
@@ -6,7 +7,6 @@ use mathlib.Core.List.{List}
 use mathlib.Core.Logic.{◌↔◌}
 use native.Mathlib.Omega.{arith}
 use borrow.Author.Tests.{leb-true, le-leb}
-use Rattle.tables.specs.declared.refusal.Checked.TheVariants.{Fine}
 use Rattle.identities.specs.Documents.{Document, SoundDocument}
 use Rattle.identities.specs.Checks.{whole_check}
 use Rattle.identities.specs.Updates.{written, room_of, fits_in}

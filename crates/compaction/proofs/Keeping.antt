@@ -7,8 +7,7 @@ use native.Mathlib.Omega.{arith}
 use Rattle.tables.specs.Limits.{word_limit}
 use Rattle.tables.specs.Words.{parent, tag}
 use Rattle.tables.specs.Documents.{Doc, present, Sound}
-use Rattle.tables.specs.Checks.{document_check}
-use Rattle.tables.specs.declared.refusal.Checked.TheVariants.{Fine}
+use Rattle.tables.specs.Checks.{document_check, Fine}
 use Rattle.tables.proofs.Soundness.{used_facts, sound_accepted}
 use Rattle.selection.specs.Ways.{up}
 use Rattle.selection.proofs.Presence.{present_used}

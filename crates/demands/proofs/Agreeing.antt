@@ -6,8 +6,7 @@ use lib.ListN.{get_or}
 use Rattle.tables.specs.Limits.{step_limit, plain_nodes}
 use Rattle.tables.specs.Words.{nodes, Bits16}
 use Rattle.tables.specs.Documents.{bare}
-use Rattle.tables.specs.Checks.{pattern_check, tree_check}
-use Rattle.tables.specs.declared.refusal.Checked.TheVariants.{Fine}
+use Rattle.tables.specs.Checks.{pattern_check, tree_check, Fine}
 use Rattle.tables.proofs.Accepted.{then_first, then_second}
 use Rattle.tables.proofs.Soundness.{accepted_pattern, accepted_tree, accepted_document}
 use Rattle.selection.proofs.Presence.{is_present}

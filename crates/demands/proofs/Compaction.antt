@@ -1,4 +1,7 @@
 -- A compaction gives room back, changes nothing else by identities, and no answer of a later batch but the numbers of nodes.
+use Rattle.std.specs.Prelude.{Result, Ok}
+use Rattle.outcomes.specs.declared.updates.Compacted.{Compacted}
+use Rattle.tables.specs.declared.refusal.Refusal.{Refusal}
 use Prim.Native.Nat.{ℕ, ◌+◌, ◌*◌, ◌≤◌}
 use mathlib.Core.Path.{◌≡◌, refl, sym, ◌∙◌, ap}
 use mathlib.Core.Bool.{true}
@@ -8,8 +11,7 @@ use native.Mathlib.Omega.{arith}
 use Rattle.tables.specs.Words.{nodes, Bits16}
 use Rattle.tables.specs.Patterns.{Pattern}
 use Rattle.tables.specs.Documents.{Doc}
-use Rattle.tables.specs.Checks.{each, node_check, parent_right, used_right, used_check, shape_check, mark_right, mark_check, document_check}
-use Rattle.tables.specs.declared.refusal.Checked.TheVariants.{Fine}
+use Rattle.tables.specs.Checks.{each, node_check, parent_right, used_right, used_check, shape_check, mark_right, mark_check, document_check, Fine}
 use Rattle.tables.proofs.Soundness.{used_facts}
 use Rattle.selection.specs.Operations.{copies}
 use Rattle.identities.specs.Documents.{Document, document, SoundDocument}
@@ -29,8 +31,6 @@ use Rattle.compaction.proofs.Fitting.{compacted-fits}
 use Rattle.compaction.proofs.Example.{five-compacted, five-dropped}
 use Rattle.doc_compact.specs.Compacting.{Compact}
 use Rattle.doc_compact.proofs.Laws.{compact_fine, compact_numbers, compact_document}
-use Rattle.outcomes.specs.declared.updates.Compacted.{Compacted}
-use Rattle.outcomes.specs.declared.updates.Compacted.TheVariants.{Closed}
 use Rattle.order.specs.Frames.{At}
 use Rattle.batch_check.specs.Batches.{batch_of}
 use Rattle.batch_check.proofs.Frames.{accepted_fits}
@@ -111,8 +111,8 @@ module _ {d e : Document} {n : ℕ} (h : Compacts d e n) where
     none : dropped e.tables ≡ 0
     none = let more : e.tables.used + dropped e.tables ≡ e.tables.used = rw same at (compacted_gains e) in omega (arith, more)
 
-    again : {rows marks ids : List ℕ} {answer : Compacted} → Compact e e.tables.rows e.tables.marks e.ids rows marks ids answer →
-        (answer ≡ Closed e.tables.used 0) × (rows ≡ e.tables.rows) × (marks ≡ e.tables.marks) × (ids ≡ e.ids)
+    again : {rows marks ids : List ℕ} {answer : Result Compacted Refusal} → Compact e e.tables.rows e.tables.marks e.ids rows marks ids answer →
+        (answer ≡ Ok (record { used = e.tables.used; dropped = 0 })) × (rows ≡ e.tables.rows) × (marks ≡ e.tables.marks) × (ids ≡ e.ids)
     again second =
         let used : staying e.tables ≡ e.tables.used = sym (closed_used e.tables) ∙ ap (λ (c : Doc). c.used) (sym (compacted_tables e)) ∙ ap (λ (c : Document). c.tables.used) same in (
           rw (sound.1, used, none) at second.answered,

@@ -1,4 +1,7 @@
 -- The three demands hold, and so does what stands beside them.
+use Rattle.std.specs.Prelude.{true, Option, Some, None, Result, Ok, Err}
+use Rattle.tables.specs.declared.refusal.Refusal.{Refusal}
+use Rattle.tables.specs.Checks.{Fine}
 use Prim.Native.Nat.{ℕ, ◌*◌, ◌<◌}
 use mathlib.Core.Path.{◌≡◌, refl, sym, ◌∙◌}
 use mathlib.Core.Bool.{Bool, false}
@@ -10,7 +13,6 @@ use lib.Seq.{drop_at}
 use Rattle.tables.specs.Limits.{tree_limit}
 use Rattle.tables.specs.Words.{Bits16}
 use Rattle.tables.specs.Documents.{bare, Sound}
-use Rattle.tables.specs.declared.refusal.Checked.TheVariants.{Fine}
 use Rattle.tables.proofs.Accepted.{never}
 use Rattle.tables.proofs.Soundness.{accepted_tree}
 use Rattle.selection.specs.Embeddings.{Selects}
@@ -32,10 +34,6 @@ use Rattle.check_verdict.proofs.Accepting.{patterns_read, patterns_update, delet
 use Rattle.verdict_ways.proofs.Deciding.{delete_deciding, insert_deciding}
 use Rattle.verdict.specs.Promise.{NodeVerdict, witness_nodes}
 use Rattle.verdict_deep.specs.Promise.{DeepVerdict}
-use Rattle.outcomes.specs.declared.verdicts.Verdict.{Verdict}
-use Rattle.outcomes.specs.declared.verdicts.Verdict.TheVariants as verdict
-use Rattle.outcomes.specs.declared.verdicts.Deeply.{Deeply}
-use Rattle.outcomes.specs.declared.verdicts.Deeply.TheVariants as deep
 use Rattle.verdict_evidence.proofs.Promise.{delete_none_gained, insert_none_lost, gained_new}
 use Rattle.marked.proofs.Marked.{marked}
 use Rattle.order.proofs.Own.{own_order}
@@ -76,7 +74,7 @@ use Rattle.text_printer.proofs.Moded.{moded_plan}
 use Rattle.text_first_line.specs.FirstLine.{first_words}
 use Rattle.text_first_line.proofs.Laws.{mode_refused_numbers}
 use Rattle.text_first_line.proofs.Example.{node_named, deep_named}
-use Rattle.demands.proofs.Numbering.{stops, mode_lines}
+use Rattle.demands.proofs.Numbering.{every_number}
 use Rattle.demands.proofs.Orders as orders
 use Rattle.demands.proofs.Texts.{lists_place, list_lines, texts, texts_place, text_steps, written_reads, read_writes}
 use Rattle.demands.proofs.Tags.{tags_enough, tags_reached, witness_text}
@@ -124,30 +122,30 @@ demand_one =
       modes = check_exactly;
       prints = orders.prints;
       prints_one = printed_one;
-      prints_refusal = λ s line before why h. stops h;
+      prints_refusal = λ s line before why h. every_number why;
       prints_fault = λ l n b why e line ten. line_fault l n b why line ten e;
       prints_offset = λ s line before why h not-Line ten. stop_offset not-Line ten h;
       prints_none = offset_none;
-      prints_mode = λ s why mode e. ((mode_lines (first_words s)).numbered why e, mode_refused_numbers (first_words s) e, misnamed mode e);
+      prints_mode = λ s why mode e. (every_number why, mode_refused_numbers (first_words s) e, misnamed mode e);
       prints_below = λ s line before why mode e lines. named mode e (refusal lines);
     }
 
 -- where it is not refused, the verdict's count tells whether there is a conflict
-exactly : (r : List ℕ) (u : Update) (before out : List ℕ) (answer : Verdict) → NodeVerdict r u before out answer → verdict_check r u (length before) ≡ Fine → (0 < witness_nodes answer) ↔ Conflict r u
-exactly r u before out (verdict.Refused why) h fine = never h.given fine
-exactly r u before out verdict.Clear h fine = ((λ l. absurd (omega arith)), (λ c. absurd (h.none c)))
-exactly r u before out (verdict.Conflict n) h fine = ((λ l. record { tree = take (2 * n) out; shows = h.witness }), (λ c. h.some))
+exactly : (r : List ℕ) (u : Update) (before out : List ℕ) (answer : Result (Option ℕ) Refusal) → NodeVerdict r u before out answer → verdict_check r u (length before) ≡ Fine → (0 < witness_nodes answer) ↔ Conflict r u
+exactly r u before out (Err why) h fine = never h.given fine
+exactly r u before out (Ok None) h fine = ((λ l. absurd (omega arith)), (λ c. absurd (h.none c)))
+exactly r u before out (Ok (Some n)) h fine = ((λ l. record { tree = take (2 * n) out; shows = h.witness }), (λ c. h.some))
 
 chained : (r : List ℕ) (u : Update) → Bits16 r → UpdateBits u → deep_check r u ≡ Fine → (t : List ℕ) → SmallestWitness r u t → Chain t
 chained r (delete p) names others fine t = decided_chain (delete_deciding r p names others fine).decides
 chained r (insert p x) names others fine t = decided_chain (insert_deciding r p x names others.0 others.1 fine).decides
 
 -- an update point at a read node makes the deep verdict say yes
-deep_at : (r : List ℕ) (u : Update) (answer : Deeply) → DeepVerdict r u answer → deep_check r u ≡ Fine →
-    (t : List ℕ) → Sound (bare t) → (v : ℕ) → Selects r (bare t) v → Selects (pattern u) (bare t) v → answer ≡ deep.Yes
-deep_at r u (deep.Refused why) h fine t sound v reads updates = never h fine
-deep_at r u deep.Yes h fine t sound v reads updates = refl
-deep_at r u deep.No h fine t sound v reads updates =
+deep_at : (r : List ℕ) (u : Update) (answer : Result Bool Refusal) → DeepVerdict r u answer → deep_check r u ≡ Fine →
+    (t : List ℕ) → Sound (bare t) → (v : ℕ) → Selects r (bare t) v → Selects (pattern u) (bare t) v → answer ≡ Ok true
+deep_at r u (Err why) h fine t sound v reads updates = never h fine
+deep_at r u (Ok true) h fine t sound v reads updates = refl
+deep_at r u (Ok false) h fine t sound v reads updates =
     absurd (h.none (inr (record { tree = t; sound = sound; node = v; point = v; read = reads; update = updates; under = inl refl })))
 
 pub demand_two : DemandTwo

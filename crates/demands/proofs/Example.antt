@@ -1,4 +1,5 @@
 -- An order in which a read has moved: the example's read goes before its delete, with which it does not conflict, deeply or not; and a read whose two slots differ.
+use Rattle.std.specs.Prelude.{Ok}
 use Prim.Native.Nat.{ℕ, zero, suc, ◌≤◌}
 use mathlib.Core.Path.{◌≡◌, refl}
 use mathlib.Core.Bool.{Bool, true, false}
@@ -6,9 +7,8 @@ use mathlib.Core.List.{List, [], ◌∷◌}
 use native.Mathlib.Omega.{arith}
 use lib.ListN.{get_or}
 use Rattle.identities.specs.Checks.{identity_right, identity_check, identities_check, whole_check}
-use Rattle.tables.specs.Checks.{pattern_check, size_check, each, axis_check, axis_right, node_check, parent_right, used_right, used_check, shape_check, mark_right, mark_check, document_check, output_check}
+use Rattle.tables.specs.Checks.{pattern_check, size_check, each, axis_check, axis_right, node_check, parent_right, used_right, used_check, shape_check, mark_right, mark_check, document_check, output_check, Fine}
 use Rattle.tables.specs.Words.{Bits16}
-use Rattle.tables.specs.declared.refusal.Checked.TheVariants.{Fine}
 use Rattle.tables.proofs.Accepted.{then_first}
 use Rattle.marked.proofs.Marked.{small, words_of}
 use Rattle.conflict.specs.Conflict.{Update, delete, Conflict, Deep}
@@ -24,7 +24,6 @@ use Rattle.batch_parts.specs.Parts.{count_check, steps_check}
 use Rattle.batch_frame.specs.Frames.{kind_right, rest_check, frame_check, end_of}
 use Rattle.batch_check.specs.Batches.{update_of, meaning, frames_from, batch_of, check_from, batch_check, plan_check}
 use Rattle.batch_plan.specs.Batch.{SlotIs, WordIs, PlanOf}
-use Rattle.outcomes.specs.declared.plans.Planned.TheVariants as planned
 use Rattle.batch_plan.proofs.Laws.{accepted_slot}
 use Rattle.demands.specs.Demands.{Keeps, Start, example, b_under_a, below_read, only_root}
 use Rattle.demands.proofs.Keeping.{order_keeps}
@@ -54,7 +53,7 @@ module _ (b q : List ℕ) (are : batch_of b ≡ frames q) (accepted : plan_check
   word (there here) = its_slot
   word (there (there p)) = absurd (omega (arith, at_below p))
 
-  pub two_plan : PlanOf Related b (0 ∷ 0 ∷ []) (1 ∷ w ∷ []) (planned.Frames 2)
+  pub two_plan : PlanOf Related b (0 ∷ 0 ∷ []) (1 ∷ w ∷ []) (Ok 2)
   two_plan = (accepted, rw are, rw are (record { words = word; behind = behind; kept = refl }))
     where
       behind : (i : ℕ) → 2 ≤ i → ◌≡◌ {A = ℕ} (get_or (1 ∷ w ∷ []) i 0) (get_or (0 ∷ 0 ∷ []) i 0)
@@ -84,7 +83,7 @@ words = words_of example refl
 
 -- by a relation that is decided, and does not hold of them
 module _ {Related : List ℕ → Update → Type 0} {test : List ℕ → Update → Bool} (decides : DecidedBy Related test) (none : test reads (delete deletes) ≡ false) where
-  pub moved_plan : PlanOf Related example (0 ∷ 0 ∷ []) (1 ∷ 0 ∷ []) (planned.Frames 2)
+  pub moved_plan : PlanOf Related example (0 ∷ 0 ∷ []) (1 ∷ 0 ∷ []) (Ok 2)
   unfolding slot nearest earlier updates_at
   moved_plan = two_plan example reads frames_are accepted words decides 0 (rw none)
 

@@ -1,4 +1,6 @@
 -- Of a read and an update that meet no refusal: what differs by identities differs by nodes, and conflicts by identities are conflicts.
+use Rattle.std.specs.Prelude.{Ok}
+use Rattle.tables.specs.Checks.{Fine}
 use Prim.Native.Nat.{ℕ, ◌+◌, ◌*◌, ◌≤◌}
 use mathlib.Core.Path.{◌≡◌, ◌∙◌, ap}
 use mathlib.Core.List.{List}
@@ -7,7 +9,6 @@ use lib.ListN.{length, get_or}
 use Rattle.tables.specs.Limits.{tree_limit}
 use Rattle.tables.specs.Words.{nodes, Bits16}
 use Rattle.tables.specs.Patterns.{Pattern}
-use Rattle.tables.specs.declared.refusal.Checked.TheVariants.{Fine}
 use Rattle.tables.proofs.Soundness.{accepted_tree}
 use Rattle.selection.specs.Operations.{copies}
 use Rattle.conflict.specs.Conflict.{Update, delete, insert, UpdateBits, Differs, Conflict}
@@ -23,8 +24,6 @@ use Rattle.doc_updates.proofs.Accepted.{insert_fits}
 use Rattle.doc_updates.proofs.Deletes.{removed_tables, delete_doc}
 use Rattle.doc_updates.proofs.Inserts.{insert_fine, insert_number, insert_used, insert_doc}
 use Rattle.order_deletes.specs.Deletes.{with_marks}
-use Rattle.outcomes.specs.declared.updates.Deleted.TheVariants as deleted
-use Rattle.outcomes.specs.declared.updates.Inserted.TheVariants as inserted
 
 reads : (r : List ℕ) (u : Update) → deep_check r u ≡ Fine → Pattern r
 reads r (delete p) fine = patterns_read r p (delete_patterns r p fine)
@@ -44,13 +43,13 @@ by_identities r (insert p x) names others fine =
     conflict_exactly (reads r (insert p x) fine) (λ k. names (2 * k + 1)) (insert p x) (keeping r (insert p x) others fine) (λ k. others.0 (2 * k + 1))
 
 -- the document after a delete that tells a number
-pub same_delete : (p : List ℕ) (d : Document) (marks : List ℕ) (n : ℕ) → Delete p d d.tables.marks marks (deleted.Removed n) → with_marks d marks ≡ deleted_in p d
+pub same_delete : (p : List ℕ) (d : Document) (marks : List ℕ) (n : ℕ) → Delete p d d.tables.marks marks (Ok n) → with_marks d marks ≡ deleted_in p d
 unfolding deleted_in
 same_delete p d marks n h = rw (delete_doc p d.tables (removed_tables h))
 
 -- behind an insert identities stay, and so does the length of their row
 pub ids_behind : (p x : List ℕ) (d : Document) (rows marks ids : List ℕ) (n used next : ℕ) →
-    Insert p x d d.tables.rows d.tables.marks d.ids rows marks ids (inserted.Copied n used next) →
+    Insert p x d d.tables.rows d.tables.marks d.ids rows marks ids (Ok (record { copies = n; used = used; next = next })) →
     (length ids ≡ length d.ids) × ((v : ℕ) → used ≤ v → get_or ids v 0 ≡ identity d v)
 unfolding written
 ids_behind p x d rows marks ids n used next h =

@@ -1,22 +1,22 @@
 -- An order that keeps the plan of an accepted batch keeps to its slots, and back.
+use Rattle.std.specs.Prelude.{Ok}
+use Rattle.tables.specs.Checks.{Fine}
 use Prim.Native.Nat.{ℕ}
 use mathlib.Core.Path.{◌≡◌, sym, ◌∙◌}
 use mathlib.Core.Bool.{Bool}
 use mathlib.Core.List.{List}
 use Rattle.tables.specs.Words.{Bits16}
-use Rattle.tables.specs.declared.refusal.Checked.TheVariants.{Fine}
 use Rattle.tables.proofs.Accepted.{then_first}
 use Rattle.conflict.specs.Conflict.{Update}
 use Rattle.order.specs.Model.{Order}
 use Rattle.order.specs.Fitting.{DecidedBy}
 use Rattle.batch_check.specs.Batches.{batch_of, batch_check, plan_check}
 use Rattle.batch_plan.specs.Batch.{PlanOf}
-use Rattle.outcomes.specs.declared.plans.Planned.TheVariants as planned
 use Rattle.batch_plan.proofs.Laws.{accepted_slot}
 use Rattle.demands.specs.Demands.{Keeps}
 
 module _ {Related : List ℕ → Update → Type 0} {test : List ℕ → Update → Bool} (decides : DecidedBy Related test)
-    (b before plan : List ℕ) (n : ℕ) (words : Bits16 b) (h : PlanOf Related b before plan (planned.Frames n)) where
+    (b before plan : List ℕ) (n : ℕ) (words : Bits16 b) (h : PlanOf Related b before plan (Ok n)) where
   accepted : batch_check b ≡ Fine
   unfolding plan_check
   accepted = then_first (batch_check b) _ h.0

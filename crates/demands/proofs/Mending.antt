@@ -1,4 +1,6 @@
 -- A mending leaves what the request's words say: the largest sound set, a document that meets no refusal, and a list that turns it back.
+use Rattle.std.specs.Prelude.{Result, Ok}
+use Rattle.tables.specs.declared.refusal.Refusal.{Refusal}
 use Prim.Native.Nat.{ℕ, ◌*◌, ◌≤◌}
 use mathlib.Core.Path.{◌≡◌, refl, sym, ◌∙◌}
 use mathlib.Core.Bool.{true}
@@ -7,8 +9,7 @@ use mathlib.Core.Logic.{◌↔◌}
 use native.Mathlib.Omega.{arith}
 use lib.ListN.{length}
 use Rattle.tables.specs.Documents.{present}
-use Rattle.tables.specs.Checks.{each, node_check, parent_right, used_right, used_check, shape_check}
-use Rattle.tables.specs.declared.refusal.Checked.TheVariants.{Fine}
+use Rattle.tables.specs.Checks.{each, node_check, parent_right, used_right, used_check, shape_check, Fine}
 use Rattle.tables.proofs.Soundness.{document_shape}
 use Rattle.identities.specs.Documents.{Document, document}
 use Rattle.identities.specs.Checks.{identity_right, identity_check, identities_check, whole_check}
@@ -24,8 +25,6 @@ use Rattle.mending.proofs.Same.{same_none, same_marks, none_list, none_document}
 use Rattle.mending.proofs.ByWords.{mended_by, by_one}
 use Rattle.mending.proofs.Undoing.{turned_back, made_again}
 use Rattle.mending.proofs.Example.{four, four_marks, four-changes, four_list}
-use Rattle.outcomes.specs.declared.updates.Mended.{Mended}
-use Rattle.outcomes.specs.declared.updates.Mended.TheVariants.{Changed}
 use Rattle.doc_mend.specs.Promise.{mend_check, Mend}
 use Rattle.doc_mend.proofs.Laws.{mend_fine, mend_number, mend_list, mend_marks, fine_shape, fine_identities, fine_room, fine_all}
 use Rattle.demands.specs.Updates.{Mends}
@@ -86,7 +85,7 @@ module _ (d : Document) (right : whole_check d ≡ Fine) where
   asked : (words : ℕ) → mend_check d words ≡ Fine
   asked words = fine_all d words (document_shape d.tables (whole_tables d right)) (whole_identities d right) (rw unchanged (omega arith))
 
-  same : {before after marks : List ℕ} {answer : Mended} → Mend d d.tables.marks before marks after answer → (answer ≡ Changed 0) × (marks ≡ d.tables.marks) × (after ≡ before)
+  same : {before after marks : List ℕ} {answer : Result ℕ Refusal} → Mend d d.tables.marks before marks after answer → (answer ≡ Ok 0) × (marks ≡ d.tables.marks) × (after ≡ before)
   same {before} call = (
     rw (asked (length before), unchanged) at call.answered,
     (rw (asked (length before)) at call.marks) ∙ same_marks d.tables (whole_tables d right),

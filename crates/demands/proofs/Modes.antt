@@ -1,4 +1,6 @@
 -- Demand 3 over what a read is shown, by a relation that is decided; and how the two modes stand to each other.
+use Rattle.std.specs.Prelude.{Result}
+use Rattle.tables.specs.declared.refusal.Refusal.{Refusal}
 use Prim.Native.Nat.{ℕ, ◌≤◌}
 use mathlib.Core.List.{List}
 use mathlib.Core.Logic.{◌↔◌, inl}
@@ -8,16 +10,15 @@ use Rattle.identities.proofs.Numbered.{identities_not_below}
 use Rattle.conflict.specs.Conflict.{Update, Conflict, Deep}
 use Rattle.order.specs.Frames.{Frame}
 use Rattle.batch_mode.specs.Modes.{mode_check, mode_of}
-use Rattle.outcomes.specs.declared.plans.Planned.{Planned}
 use Rattle.batch_plan.specs.Batch.{PlanIn, PlanOf, Plan, SlotIs}
 use Rattle.batch_plan.proofs.Slots.{slot_implied}
 
 -- a mode by its number
-pub named_node : (b before after : List ℕ) (answer : Planned) → PlanIn 1 b before after answer ↔ PlanOf Conflict b before after answer
+pub named_node : (b before after : List ℕ) (answer : Result ℕ Refusal) → PlanIn 1 b before after answer ↔ PlanOf Conflict b before after answer
 unfolding mode_check mode_of
 named_node b before after answer = ((λ h. h), (λ h. h))
 
-pub named_deep : (b before after : List ℕ) (answer : Planned) → PlanIn 2 b before after answer ↔ Plan b before after answer
+pub named_deep : (b before after : List ℕ) (answer : Result ℕ Refusal) → PlanIn 2 b before after answer ↔ Plan b before after answer
 unfolding mode_check mode_of
 named_deep b before after answer = ((λ h. h), (λ h. h))
 

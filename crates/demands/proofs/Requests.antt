@@ -1,9 +1,9 @@
 -- Deletes in either order, and installations with other limits.
+use Rattle.tables.specs.Checks.{Fine}
 use Prim.Native.Nat.{ℕ}
 use mathlib.Core.Path.{◌≡◌, refl, sym, ◌∙◌}
 use mathlib.Core.List.{List}
 use Rattle.tables.specs.Words.{Bits16}
-use Rattle.tables.specs.declared.refusal.Checked.TheVariants.{Fine}
 use Rattle.identities.specs.Documents.{Document}
 use Rattle.doc_updates.specs.Updating.{delete_check}
 use Rattle.doc_updates.proofs.Accepted.{delete_document}

@@ -1,4 +1,6 @@
 -- Trees from tags: which texts are right, what is read of one, and a tree written and read back.
+use Rattle.std.specs.Prelude.{Result, Ok, Err}
+use Rattle.tables.specs.declared.refusal.Refusal.{Refusal}
 use Prim.Native.Nat.{ℕ, ◌*◌, ◌≤◌}
 use mathlib.Core.Path.{◌≡◌, refl, sym, ap, ◌∙◌}
 use mathlib.Core.List.{List}
@@ -11,8 +13,7 @@ use borrow.Author.Tests.{leb-true, le-leb}
 use Rattle.tables.specs.Limits.{tree_limit}
 use Rattle.tables.specs.Words.{nodes, Bits16}
 use Rattle.tables.specs.Documents.{bare, Sound}
-use Rattle.tables.specs.Checks.{test, refuse, tree_check, output_check}
-use Rattle.tables.specs.declared.refusal.Checked.TheVariants.{Fine}
+use Rattle.tables.specs.Checks.{test, refuse, tree_check, output_check, Fine}
 use Rattle.tables.proofs.Accepted.{never, held, then_first, then_second}
 use Rattle.tables.proofs.Soundness.{accepted_tree, accepted_nodes, accepted_whole, tree_fine}
 use Rattle.text_xml.specs.Tags.{tree_text}
@@ -26,10 +27,6 @@ use Rattle.text_xml_form.proofs.Again as again
 use Rattle.text_xml_form.proofs.Returning as returning
 use Rattle.text_xml_in.specs.Reading.{tags_check, read_tree_check, ReadTree}
 use Rattle.text_xml_out.specs.Writing.{write_tree_check, WriteTree}
-use Rattle.outcomes.specs.declared.texts.Parsed.{Parsed}
-use Rattle.outcomes.specs.declared.texts.Parsed.TheVariants as parsed
-use Rattle.outcomes.specs.declared.texts.Printed.{Printed}
-use Rattle.outcomes.specs.declared.texts.Printed.TheVariants as printed
 use Rattle.demands.specs.Demands.{WrongText}
 use Rattle.demands.proofs.Texts.{right_fine, wrong_refused}
 
@@ -42,7 +39,7 @@ unfolding tags_check
 tags_place s = wrong_refused RightTags s (right_tags s) (longest_tags s) (scan_right s) (right_scan s) (longest_tags_lem s)
 
 -- what was read
-module _ (s words tree : List ℕ) (n : ℕ) (h : ReadTree s words tree (parsed.Words n)) where
+module _ (s words tree : List ℕ) (n : ℕ) (h : ReadTree s words tree (Ok n)) where
   few : test (leb (nodes (rows_of s)) tree_limit) (refuse 2 3 0) ≡ Fine
   unfolding read_tree_check
   few = then_first (test (leb (nodes (rows_of s)) tree_limit) (refuse 2 3 0)) _ (then_second (tags_check s) _ h.0)
@@ -77,15 +74,15 @@ module _ (s words tree : List ℕ) (n : ℕ) (h : ReadTree s words tree (parsed.
         let less : length (written (shortened right.root)) ≤ bytes = omega (arith, again.shortened_long right.root, ap length right.spelled, room) in
         rw (read_sound.1 5, again_text, le-leb (length (written (shortened right.root))) bytes less)
 
-    pub read_again : (before after : List ℕ) (answer : Printed) → WriteTree (take n tree) before after answer → length s ≤ length before
-        → (answer ≡ printed.Bytes (length (written (shortened right.root)))) × (take (length (written (shortened right.root))) after ≡ written (shortened right.root))
-    read_again before after (printed.Refused why) w room = never w.0 (writes_fine (length before) room)
-    read_again before after (printed.Bytes m) w room =
+    pub read_again : (before after : List ℕ) (answer : Result ℕ Refusal) → WriteTree (take n tree) before after answer → length s ≤ length before
+        → (answer ≡ Ok (length (written (shortened right.root)))) × (take (length (written (shortened right.root))) after ≡ written (shortened right.root))
+    read_again before after (Err why) w room = never w.0 (writes_fine (length before) room)
+    read_again before after (Ok m) w room =
         let text = written (shortened right.root) in
-        (ap printed.Bytes (w.1 ∙ ap length again_text), rw (w.2, again_text) (take_at text (drop m before) (length text) refl))
+        (ap Ok (w.1 ∙ ap length again_text), rw (w.2, again_text) (take_at text (drop m before) (length text) refl))
 
 -- what was written
-module _ (t before text : List ℕ) (n : ℕ) (words16 : Bits16 t) (h : WriteTree t before text (printed.Bytes n)) where
+module _ (t before text : List ℕ) (n : ℕ) (words16 : Bits16 t) (h : WriteTree t before text (Ok n)) where
   tree_is : tree_check t tree_limit 5 ≡ Fine
   unfolding write_tree_check
   tree_is = then_first (tree_check t tree_limit 5) _ h.0
@@ -109,17 +106,17 @@ module _ (t before text : List ℕ) (n : ℕ) (words16 : Bits16 t) (h : WriteTre
       rw ((tags (tree_text t)).1 (returning.text_right t sound), le-leb (nodes (rows_of (tree_text t))) tree_limit few, back.as_long, le-leb (length t) room enough)
 
   module _ (words tree : List ℕ) where
-    reads-back : (answer : Parsed) → ReadTree (tree_text t) words tree answer → length t ≤ length words
-        → (answer ≡ parsed.Words (length t)) × (take (length t) tree ≡ rows_of (tree_text t))
-    reads-back (parsed.Refused why) r enough = never r.0 (reads_fine (length words) enough)
-    reads-back (parsed.Words m) r enough =
-        (ap parsed.Words (r.1 ∙ back.as_long), rw r.2 (take_at (rows_of (tree_text t)) (drop m words) (length t) back.as_long))
+    reads-back : (answer : Result ℕ Refusal) → ReadTree (tree_text t) words tree answer → length t ≤ length words
+        → (answer ≡ Ok (length t)) × (take (length t) tree ≡ rows_of (tree_text t))
+    reads-back (Err why) r enough = never r.0 (reads_fine (length words) enough)
+    reads-back (Ok m) r enough =
+        (ap Ok (r.1 ∙ back.as_long), rw r.2 (take_at (rows_of (tree_text t)) (drop m words) (length t) back.as_long))
 
-    module _ (answer : Parsed) (r : ReadTree (take n text) words tree answer) (enough : length t ≤ length words) where
-      both_ways : (answer ≡ parsed.Words (length t)) × (take (length t) tree ≡ rows_of (tree_text t))
+    module _ (answer : Result ℕ Refusal) (r : ReadTree (take n text) words tree answer) (enough : length t ≤ length words) where
+      both_ways : (answer ≡ Ok (length t)) × (take (length t) tree ≡ rows_of (tree_text t))
       both_ways = reads-back answer (rw text_is at r) enough
 
-      pub written_back : (answer ≡ parsed.Words (length t)) × Renumbered t (take (length t) tree) (λ k. get_or (starts t) k 0)
+      pub written_back : (answer ≡ Ok (length t)) × Renumbered t (take (length t) tree) (λ k. get_or (starts t) k 0)
       written_back = (both_ways.0, rw both_ways.1 back)
 
       pub written_same : InOrder t → take (length t) tree ≡ t

@@ -1,4 +1,7 @@
 -- Patterns as text: lists and texts are refused as the definitions say; what is written reads back, and what was read is written back.
+use Rattle.std.specs.Prelude.{Result, Ok, Err}
+use Rattle.tables.specs.Refusals.{numbered as reason_of}
+use Rattle.tables.specs.declared.refusal.Refusal.{Refusal}
 use Prim.Native.Nat.{ℕ, ◌*◌, ◌≤◌, ◌<◌}
 use mathlib.Core.Path.{◌≡◌, refl, sym, ◌∙◌, ap}
 use mathlib.Core.Bool.{Bool, true, false}
@@ -13,9 +16,7 @@ use borrow.Author.Tests.{leb-true, le-leb}
 use Rattle.tables.specs.Limits.{step_limit}
 use Rattle.tables.specs.Words.{steps, label}
 use Rattle.tables.specs.Patterns.{Pattern}
-use Rattle.tables.specs.Checks.{◌then◌, test, refuse, each, pattern_check, output_check}
-use Rattle.tables.specs.declared.refusal.Checked.{Checked}
-use Rattle.tables.specs.declared.refusal.Checked.TheVariants.{Fine, Refused}
+use Rattle.tables.specs.Checks.{◌then◌, test, refuse, each, pattern_check, output_check, Checked, Fine}
 use Rattle.tables.proofs.Accepted.{never, held, then_first, then_second, each_all}
 use Rattle.tables.proofs.Soundness.{accepted_pattern, accepted_steps, accepted_pairs, pattern_fine}
 use Rattle.text_names.specs.Names.{Names, NameList, BreaksAt, lines, same, list_check}
@@ -34,15 +35,11 @@ use Rattle.text_pattern_in.specs.Reading.{listed_check, read_text_check, ReadTex
 use Rattle.text_pattern_in.proofs.Taking.{all_listed_lem, listed_all}
 use Rattle.text_pattern_out.proofs.Promise.{numbered}
 use Rattle.text_pattern_out.specs.Writing.{number_check, write_text_check, WriteText}
-use Rattle.outcomes.specs.declared.texts.Parsed.{Parsed}
-use Rattle.outcomes.specs.declared.texts.Parsed.TheVariants as parsed
-use Rattle.outcomes.specs.declared.texts.Printed.{Printed}
-use Rattle.outcomes.specs.declared.texts.Printed.TheVariants as printed
 use Rattle.demands.specs.Demands.{WrongText}
 
 -- where a list breaks
 pub lists_place : (l : List ℕ) (k : ℕ) → (list_check l ≡ refuse 14 8 k) ↔ BreaksAt l k
-lists_place l k = ((λ e. (list_breaks l (record { number = 14; table = 8; place = k }) e).1), breaks_list l k)
+lists_place l k = ((λ e. (list_breaks l (record { reason = reason_of 14; table = 8; place = k }) e).1), breaks_list l k)
 
 -- a list has one list of names
 pub list_lines : (l : List ℕ) (list : NameList l) → lines l ≡ list.names
@@ -50,8 +47,8 @@ list_lines l list = ap lines list.written ∙ lines-written list.names list.righ
 
 -- the place of a refusal
 place_of : Checked → ℕ
-place_of Fine = 0
-place_of (Refused r) = r.place
+place_of (Ok tt) = 0
+place_of (Err r) = r.place
 
 -- a text that is right, and one that is not, by a test and a place that find them
 module _ (Right : List ℕ → Type 0) (s : List ℕ) (right : Bool) (place : ℕ) (to : right ≡ true → Right s) (from : Right s → right ≡ true) (longest : Longest Right s place) where
@@ -133,15 +130,15 @@ module _ (l p : List ℕ) (room : ℕ) (e : write_text_check l p room ≡ Fine) 
   text_long : 2 * length (steps_of (text_of (lines l) p)) ≡ length p
   text_long = rw (returning.text_steps (lines l) p names pattern write_labels, length_from (lines l) p 0 (steps p)) write_whole
 
-  reads-back : (words after : List ℕ) → length p ≤ length words → (answer : Parsed) → ReadText l (text_of (lines l) p) words after answer
-      → (answer ≡ parsed.Words (length p)) × (take (length p) after ≡ p)
-  reads-back words after h (parsed.Refused why) r = never r.0 (reads_fine (length words) h)
-  reads-back words after h (parsed.Words m) r =
+  reads-back : (words after : List ℕ) → length p ≤ length words → (answer : Result ℕ Refusal) → ReadText l (text_of (lines l) p) words after answer
+      → (answer ≡ Ok (length p)) × (take (length p) after ≡ p)
+  reads-back words after h (Err why) r = never r.0 (reads_fine (length words) h)
+  reads-back words after h (Ok m) r =
       let same : words_of (lines l) (steps_of (text_of (lines l) p)) ≡ p = returning.text_returns (lines l) p names pattern write_labels write_whole in
-      (ap parsed.Words (r.1 ∙ text_long), rw (r.2, same) (take_at p (drop m words) (length p) refl))
+      (ap Ok (r.1 ∙ text_long), rw (r.2, same) (take_at p (drop m words) (length p) refl))
 
-pub written_reads : (l p before text : List ℕ) (n : ℕ) → WriteText l p before text (printed.Bytes n) →
-    (words after : List ℕ) (answer : Parsed) → ReadText l (take n text) words after answer → length p ≤ length words → (answer ≡ parsed.Words (length p)) × (take (length p) after ≡ p)
+pub written_reads : (l p before text : List ℕ) (n : ℕ) → WriteText l p before text (Ok n) →
+    (words after : List ℕ) (answer : Result ℕ Refusal) → ReadText l (take n text) words after answer → length p ≤ length words → (answer ≡ Ok (length p)) × (take (length p) after ≡ p)
 written_reads l p before text n h words after answer r room =
     let written : take n text ≡ text_of (lines l) p = rw h.2 (take_at (text_of (lines l) p) (drop n before) n (sym h.1)) in
     reads-back l p (length before) h.0 words after room answer (rw written at r)
@@ -186,14 +183,14 @@ module _ (l s : List ℕ) (room : ℕ) (e : read_text_check l s room ≡ Fine) w
       (λ i k. rw (zero-add i, le-leb (label p i) (length (lines l)) (labels_listed (lines l) (steps_of s) i (rw (steps_words (lines l) (steps_of s)) at k)))) in
       rw (read_list, pattern_fine p step_limit 1 (pattern_accepted (lines l) s read_right) whole few, numbers, same_text, le-leb (length s) bytes h)
 
-  writes_back : (before after : List ℕ) → length s ≤ length before → (answer : Printed) → WriteText l (words_of (lines l) (steps_of s)) before after answer
-      → (answer ≡ printed.Bytes (length s)) × (take (length s) after ≡ s)
-  writes_back before after h (printed.Refused why) r = never r.0 (writes_fine (length before) h)
-  writes_back before after h (printed.Bytes m) r =
-      (ap printed.Bytes (r.1 ∙ ap length same_text), rw (r.2, same_text) (take_at s (drop m before) (length s) refl))
+  writes_back : (before after : List ℕ) → length s ≤ length before → (answer : Result ℕ Refusal) → WriteText l (words_of (lines l) (steps_of s)) before after answer
+      → (answer ≡ Ok (length s)) × (take (length s) after ≡ s)
+  writes_back before after h (Err why) r = never r.0 (writes_fine (length before) h)
+  writes_back before after h (Ok m) r =
+      (ap Ok (r.1 ∙ ap length same_text), rw (r.2, same_text) (take_at s (drop m before) (length s) refl))
 
-pub read_writes : (l s words pattern : List ℕ) (n : ℕ) → ReadText l s words pattern (parsed.Words n) →
-    (before after : List ℕ) (answer : Printed) → WriteText l (take n pattern) before after answer → length s ≤ length before → (answer ≡ printed.Bytes (length s)) × (take (length s) after ≡ s)
+pub read_writes : (l s words pattern : List ℕ) (n : ℕ) → ReadText l s words pattern (Ok n) →
+    (before after : List ℕ) (answer : Result ℕ Refusal) → WriteText l (take n pattern) before after answer → length s ≤ length before → (answer ≡ Ok (length s)) × (take (length s) after ≡ s)
 read_writes l s words pattern n h before after answer r room =
     let read : take n pattern ≡ words_of (lines l) (steps_of s) =
     rw h.2 (take_at (words_of (lines l) (steps_of s)) (drop n words) n (length_words (lines l) (steps_of s) ∙ sym h.1)) in

@@ -1,4 +1,6 @@
 -- Wider is never safer: by proposed trees, by orders, on the example; and the record of it all.
+use Rattle.std.specs.Prelude.{Option, Some, None, Result, Ok, Err}
+use Rattle.tables.specs.declared.refusal.Refusal.{Refusal}
 use Prim.Native.Nat.{ℕ, ◌<◌, ◌≤◌}
 use mathlib.Core.Path.{◌≡◌, refl}
 use mathlib.Core.Bool.{true}
@@ -9,8 +11,7 @@ use native.Mathlib.Omega.{arith}
 use lib.ListN.{get_or}
 use Rattle.tables.specs.Limits.{tree_limit}
 use Rattle.tables.specs.Words.{Bits16}
-use Rattle.tables.specs.Checks.{tree_check, pattern_check, size_check, each, axis_check, axis_right, output_check}
-use Rattle.tables.specs.declared.refusal.Checked.TheVariants.{Fine}
+use Rattle.tables.specs.Checks.{tree_check, pattern_check, size_check, each, axis_check, axis_right, output_check, Fine}
 use Rattle.tables.proofs.Accepted.{never}
 use Rattle.marked.proofs.Marked.{small, words_of}
 use Rattle.conflict.specs.Conflict.{Update, delete, insert}
@@ -29,12 +30,9 @@ use Rattle.batch_frame.specs.Frames.{kind_right, rest_check, frame_check, end_of
 use Rattle.batch_check.specs.Batches.{update_of, meaning, frames_from, batch_of, check_from, batch_check, plan_check}
 use Rattle.batch_plan.specs.Batch.{PlanOf}
 use Rattle.batch_plan.proofs.Numbers.{number_rises}
-use Rattle.outcomes.specs.declared.plans.Planned.TheVariants as planned
 use Rattle.check_evidence.specs.Order.{evidence_check}
 use Rattle.check_evidence.proofs.Accepting.{delete_tree as proposed-delete, insert_tree as proposed-insert}
 use Rattle.verdict_evidence.specs.Promise.{Checks}
-use Rattle.outcomes.specs.declared.verdicts.Evidence.{Evidence}
-use Rattle.outcomes.specs.declared.verdicts.Evidence.TheVariants as evidence
 use Rattle.wider.specs.Wider.{deletes, inserts, Widened}
 use Rattle.wider.specs.Batches.{reads, updates, WiderFrames, WidenedRead}
 use Rattle.wider.specs.Examples.{a/c, a/any}
@@ -54,11 +52,11 @@ proposed : (r : List ℕ) (u : Update) (t : List ℕ) → evidence_check r u t �
 proposed r (delete p) t e = proposed-delete r p t e
 proposed r (insert p x) t e = proposed-insert r p x t e
 
-evidence_wider : (r s : List ℕ) (u v : Update) → Widened r u s v → (t : List ℕ) (n : ℕ) (answer : Evidence) → Checks r u t (evidence.Shown n) → Checks s v t answer →
-    (m : ℕ) × (answer ≡ evidence.Shown m)
-evidence_wider r s u v w t n (evidence.Refused why) found h = never h (evidence_fine s v t w.wide.fine (proposed r u t found.fine))
-evidence_wider r s u v w t n evidence.Same found h = absurd (h.none (accepted_witness w found.witness).differs)
-evidence_wider r s u v w t n (evidence.Shown m) found h = (m, refl)
+evidence_wider : (r s : List ℕ) (u v : Update) → Widened r u s v → (t : List ℕ) (n : ℕ) (answer : Result (Option ℕ) Refusal) → Checks r u t (Ok (Some n)) → Checks s v t answer →
+    (m : ℕ) × (answer ≡ Ok (Some m))
+evidence_wider r s u v w t n (Err why) found h = never h (evidence_fine s v t w.wide.fine (proposed r u t found.fine))
+evidence_wider r s u v w t n (Ok None) found h = absurd (h.none (accepted_witness w found.witness).differs)
+evidence_wider r s u v w t n (Ok (Some m)) found h = (m, refl)
 
 -- what stands before what stands before
 before_on : {o : List ℕ} {i j k : ℕ} → Stands o j → Before o i j → Before o j k → Before o i k
@@ -66,7 +64,7 @@ before_on between first next = record { before = λ at end. omega (arith, first.
 
 -- an order that keeps the wider plan keeps the other: where the slot has moved, its update stands behind the one that it was
 module _ (m : Mode) (b c before plan before' plan' : List ℕ) (n n' : ℕ) (words : Bits16 b) (words' : Bits16 c)
-    (narrow : PlanOf (relation_of m) b before plan (planned.Frames n)) (wide : PlanOf (relation_of m) c before' plan' (planned.Frames n'))
+    (narrow : PlanOf (relation_of m) b before plan (Ok n)) (wide : PlanOf (relation_of m) c before' plan' (Ok n'))
     (wider : WiderFrames (batch_of b) (batch_of c)) (o : List ℕ) (keeps : Keeps plan' (batch_of c) o) where
   after_slot : {i j : ℕ} {r : List ℕ} {u : Update} → At (batch_of b) i (read r) → At (batch_of b) j (update u) → number (batch_of b) j ≡ get_or plan i 0 → Before o j i
   after_slot {i} {j} p q e =
@@ -121,11 +119,11 @@ any_deep : deeply a/any (delete (0 ∷ 1 ∷ 1 ∷ 2 ∷ [])) ≡ true
 unfolding delete_deep fewest_of fewest onward least sooner agree
 any_deep = refl
 
-example_plan : (m : Mode) → PlanOf (relation_of m) example (0 ∷ 0 ∷ []) (1 ∷ 0 ∷ []) (planned.Frames 2)
+example_plan : (m : Mode) → PlanOf (relation_of m) example (0 ∷ 0 ∷ []) (1 ∷ 0 ∷ []) (Ok 2)
 example_plan Node = moved_plan conflicting_decides clear
 example_plan Deep = moved_plan deeply_decides clear_deep
 
-any_plan : (m : Mode) → PlanOf (relation_of m) any_child (0 ∷ 0 ∷ []) (1 ∷ 1 ∷ []) (planned.Frames 2)
+any_plan : (m : Mode) → PlanOf (relation_of m) any_child (0 ∷ 0 ∷ []) (1 ∷ 1 ∷ []) (Ok 2)
 unfolding slot nearest earlier updates_at
 any_plan Node = two_plan any_child a/any any_are any_accepted any_words conflicting_decides 1 (rw any_conflict)
 any_plan Deep = two_plan any_child a/any any_are any_accepted any_words deeply_decides 1 (rw any_deep)

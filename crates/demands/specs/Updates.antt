@@ -1,15 +1,13 @@
 -- What a delete and an insert do to a document, by embeddings, and an insert to its identities; what a compaction does; and a mending that is called.
-use Rattle.std.specs.Prelude.{ℕ, ◌+◌, ◌*◌, ◌<◌, ◌≤◌, ◌≡◌, true, List, length, get_or}
+use Rattle.tables.specs.Checks.{Fine}
+use Rattle.std.specs.Prelude.{ℕ, ◌+◌, ◌*◌, ◌<◌, ◌≤◌, ◌≡◌, true, List, length, get_or, Ok}
 use Rattle.tables.specs.Words.{nodes, parent, tag}
 use Rattle.tables.specs.Documents.{Doc, mark, present}
-use Rattle.tables.specs.declared.refusal.Checked.TheVariants.{Fine}
 use Rattle.selection.specs.Embeddings.{AtOrBelow, Selects}
 use Rattle.identities.specs.Documents.{Document, identity}
 use Rattle.identities.specs.Compaction.{place}
 use Rattle.doc_compact.specs.Compacting.{Compact}
-use Rattle.outcomes.specs.declared.updates.Compacted.TheVariants.{Closed}
 use Rattle.doc_mend.specs.Promise.{Mend}
-use Rattle.outcomes.specs.declared.updates.Mended.TheVariants.{Changed}
 use Rattle.doc_updates.specs.Updating.{delete_check}
 use Rattle.order.specs.Frames.{At}
 
@@ -78,7 +76,7 @@ pub record NamedBy (x : List ℕ) (d e : Document) (n : ℕ) : Type 0 where
 
 -- a compaction of d, called on d's own rows, that is not refused: it leaves e, and tells so many nodes dropped
 pub record Compacts (d e : Document) (dropped : ℕ) : Type 0 where
-  pub call : Compact d d.tables.rows d.tables.marks d.ids e.tables.rows e.tables.marks e.ids (Closed e.tables.used dropped)
+  pub call : Compact d d.tables.rows d.tables.marks d.ids e.tables.rows e.tables.marks e.ids (Ok (record { used = e.tables.used; dropped = dropped }))
   pub next : e.next ≡ d.next
 
 -- e is d closed up: place v, the new number of node v, is how many present nodes stood before it
@@ -101,7 +99,7 @@ pub record ClosedBy (d e : Document) : Type 0 where
 
 -- a mending of d, called on d's own marks, that is not refused: it leaves e, with n entries in the list
 pub record Mends (d e : Document) (before after : List ℕ) (n : ℕ) : Type 0 where
-  pub call : Mend d d.tables.marks before e.tables.marks after (Changed n)
+  pub call : Mend d d.tables.marks before e.tables.marks after (Ok n)
   pub rows : e.tables.rows ≡ d.tables.rows
   pub used : e.tables.used ≡ d.tables.used
   pub ids : e.ids ≡ d.ids

@@ -1,12 +1,11 @@
 -- Inside: what closing up a document asks and gives.
+use Rattle.outcomes.specs.declared.updates.Compacted.{Compacted}
 use Rattle.std.specs.Prelude.{ℕ, ◌+◌, ◌*◌, ◌<◌, ◌≤◌, ◌≡◌, cond, List, eqb, length, get_or, set}
 use Rattle.tables.specs.Limits.{used_limit}
 use Rattle.tables.specs.Words.{parent, tag}
 use Rattle.tables.specs.Documents.{Doc, Sound}
 use Rattle.identities.specs.Documents.{Document}
 use Rattle.identities.specs.Compaction.{staying, dropped, compacted}
-use Rattle.outcomes.specs.declared.updates.Compacted.{Compacted}
-use Rattle.outcomes.specs.declared.updates.Compacted.TheVariants.{Closed as ClosedTo}
 
 -- node v is in each row, its new number m is not greater, and that of its parent stands in `places`
 pub record Movable (rows marks ids places : List ℕ) (v m : ℕ) : Type 0 where
@@ -47,4 +46,4 @@ pub record ClosedUp (d : Doc) (ids₀ rows₁ marks₁ ids₁ : List ℕ) (answe
   pub rows : (next : ℕ) → rows₁ ≡ (compacted (with d ids₀ next)).tables.rows
   pub marks : (next : ℕ) → marks₁ ≡ (compacted (with d ids₀ next)).tables.marks
   pub ids : (next : ℕ) → ids₁ ≡ (compacted (with d ids₀ next)).ids
-  pub answered : answer ≡ ClosedTo (staying d) (dropped d)
+  pub answered : answer ≡ record { used = staying d; dropped = dropped d }

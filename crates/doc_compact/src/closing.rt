@@ -44,11 +44,9 @@ fn close(
     ensures { Closed (doc rows.old marks.old used) ids.old rows.new marks.new ids.new result }
 {
     let mut m: usize = 0;
-    let mut v = 0;
-    while v < used {
+    for v in 0..used {
         places[v] = m as u16;
         m = moved(rows, marks, ids, places, v, m);
-        v += 1;
     }
     m
 }
@@ -65,5 +63,8 @@ pub(crate) fn closed_up(
 {
     let mut places = [0u16; USED_LIMIT];
     let n = close(rows, marks, used, ids, &mut places);
-    Compacted::Closed(n, used - n)
+    Compacted {
+        used: n,
+        dropped: used - n,
+    }
 }

@@ -9,7 +9,7 @@ ghost use Rattle.doc_compact.specs.Compacting.{Compact};
 use crate::closing::closed_up;
 use check_identities::whole;
 use outcomes::updates::Compacted;
-use tables::refusal::Checked;
+use tables::refusal::Refusal;
 
 // Compaction: removed nodes are dropped and the rest is closed up in order, in place; the new used count, and how many were dropped.
 pub fn compact(
@@ -18,11 +18,9 @@ pub fn compact(
     used: usize,
     ids: &mut [u32],
     next: u32,
-) -> Compacted
+) -> Result<Compacted, Refusal>
     ensures { Compact (document rows.old marks.old used ids.old next) rows.old marks.old ids.old rows.new marks.new ids.new result }
 {
-    match whole(rows, marks, used, ids, next) {
-        Checked::Fine => closed_up(rows, marks, used, ids),
-        Checked::Refused(r) => Compacted::Refused(r),
-    }
+    whole(rows, marks, used, ids, next)?;
+    Ok(closed_up(rows, marks, used, ids))
 }

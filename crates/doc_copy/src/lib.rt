@@ -30,12 +30,10 @@ fn copier(x: &[u16], q: usize, base: usize, free: &mut [u16])
     ensures { free.new ≡ held (copy_words x.now q base (nodes x.now)) ++ drop (2 * nodes x.now) free.old }
 {
     let n = x.len() / 2;
-    let mut k = 0;
-    while k < n {
+    for k in 0..n {
         let own = 2 * k;
         free[own] = hung(x, q, base, k);
         free[own + 1] = x[own + 1];
-        k += 1;
     }
 }
 
@@ -44,11 +42,7 @@ fn present(n: usize, marks: &mut [u8])
     requires { n ≤ length marks.old }
     ensures { marks.new ≡ tab (λ _. 0) n ++ drop n marks.old }
 {
-    let mut k = 0;
-    while k < n {
-        marks[k] = 0;
-        k += 1;
-    }
+    marks[..n].fill(0);
 }
 
 // Whether n nodes more fit behind the `at` nodes already there.

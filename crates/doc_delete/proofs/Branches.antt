@@ -6,9 +6,7 @@ use mathlib.Core.List.{List}
 use lib.Dec.{eqb, ltb}
 use borrow.Author.Tests.{ne_eqb, lt-ltb, le-ltb}
 use Rattle.tables.specs.Words.{steps}
-use Rattle.tables.specs.Checks.{test, refuse}
-use Rattle.tables.specs.declared.refusal.Checked.{Checked}
-use Rattle.tables.specs.declared.refusal.Checked.TheVariants.{Fine}
+use Rattle.tables.specs.Checks.{test, refuse, Checked, Fine}
 use Rattle.selection.proofs.Rows.{bit_most}
 use Rattle.doc_delete.specs.Striking.{strikes}
 

@@ -1,4 +1,6 @@
 -- From what the checks and the pass give to the promise of delete.
+use Rattle.std.specs.Prelude.{Ok, Err}
+use Rattle.tables.specs.Checks.{Checked, Fine}
 use Prim.Native.Nat.{ℕ, ◌≤◌}
 use mathlib.Core.Path.{◌≡◌, sym, ◌∙◌}
 use mathlib.Core.List.{List}
@@ -7,11 +9,8 @@ use lib.ListN.{length}
 use Rattle.tables.specs.Limits.{used_limit}
 use Rattle.tables.specs.Documents.{Doc}
 use Rattle.tables.specs.declared.refusal.Refusal.{Refusal}
-use Rattle.tables.specs.declared.refusal.Checked.{Checked}
-use Rattle.tables.specs.declared.refusal.Checked.TheVariants.{Fine, Refused}
 use Rattle.tables.specs.Words.{Bits16}
 use Rattle.tables.proofs.Soundness.{used_facts, accepted_document}
-use Rattle.outcomes.specs.declared.updates.Deleted.TheVariants.{Removed, Refused as NotDeleted}
 use Rattle.doc_updates.specs.Updating.{delete_tables_check, DeleteTables}
 use Rattle.doc_updates.specs.Asking.{Asked}
 use Rattle.doc_updates.proofs.Asking.{row_chosen, row_bytes}
@@ -33,7 +32,7 @@ module _ (p : List ℕ) (d : Doc) {before after : List ℕ} {got : Checked} (ask
           marks = used.3;
         }
 
-    pub delete_done : {marks : List ℕ} {n : ℕ} → Strikes d after marks n → DeleteTables p d d.marks marks (Removed n)
+    pub delete_done : {marks : List ℕ} {n : ℕ} → Strikes d after marks n → DeleteTables p d d.marks marks (Ok n)
     delete_done struck =
         let chosen = row_chosen p d before (asked.row told) in
         record {
@@ -41,7 +40,7 @@ module _ (p : List ℕ) (d : Doc) {before after : List ℕ} {got : Checked} (ask
           marks = rw fine (struck.marks p chosen);
         }
 
-  pub delete_refused : {r : Refusal} → got ≡ Refused r → DeleteTables p d d.marks d.marks (NotDeleted r)
+  pub delete_refused : {r : Refusal} → got ≡ Err r → DeleteTables p d d.marks d.marks (Err r)
   delete_refused told =
-      let refused : delete_tables_check p d ≡ Refused _ = sym asked.answered ∙ told in
+      let refused : delete_tables_check p d ≡ Err _ = sym asked.answered ∙ told in
       record { answered = rw refused; marks = rw refused }

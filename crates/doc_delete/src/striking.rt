@@ -37,8 +37,7 @@ pub(crate) fn strike(rows: &[u16], marks: &mut [u8], used: usize, row: &mut [u8]
     ensures { Strikes (doc rows.now marks.old used) row.old marks.new result }
 {
     let mut n: usize = 0;
-    let mut v = 0;
-    while v < used {
+    for v in 0..used {
         let mark = marks[v];
         let own = byte(row, v);
         let above = byte(row, first_word(rows, v));
@@ -46,7 +45,6 @@ pub(crate) fn strike(rows: &[u16], marks: &mut [u8], used: usize, row: &mut [u8]
         row[v] = hit;
         marks[v] = marked(hit, mark);
         n += hit as usize;
-        v += 1;
     }
     n
 }

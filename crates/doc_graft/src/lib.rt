@@ -26,10 +26,8 @@ pub fn grafts(x: &[u16], rows: &mut [u16], marks: &mut [u8], used: usize, row: &
     ensures { doc rows.new marks.new result ≡ copied_all x.now (rising (chosen row.now) used) (doc rows.old marks.old used) }
 {
     let mut at = used;
-    let mut v = 0;
-    while v < used {
+    for v in 0..used {
         at = turn(x, byte(row, v), v, at, rows, marks);
-        v += 1;
     }
     at
 }

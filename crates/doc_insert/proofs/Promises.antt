@@ -1,4 +1,6 @@
 -- From what the checks and the copies give to the promise of insert.
+use Rattle.std.specs.Prelude.{Result, Ok, Err}
+use Rattle.outcomes.specs.declared.updates.Inserted.{Inserted}
 use Prim.Native.Nat.{ℕ, ◌+◌, ◌*◌, ◌-◌, ◌≤◌}
 use mathlib.Core.Path.{◌≡◌, sym, ◌∙◌, ap}
 use mathlib.Core.List.{List}
@@ -7,11 +9,9 @@ use lib.ListN.{length}
 use Rattle.tables.specs.Limits.{step_limit, tree_limit, identity_limit}
 use Rattle.tables.specs.Words.{nodes, Bits16}
 use Rattle.tables.specs.Documents.{Doc, doc}
-use Rattle.tables.specs.Checks.{◌then◌, document_check, pattern_check, tree_check}
+use Rattle.tables.specs.Checks.{◌then◌, document_check, pattern_check, tree_check, Checked, Fine}
 use Rattle.tables.specs.declared.refusal.Refusal.{Refusal}
-use Rattle.tables.specs.declared.refusal.Checked.{Checked}
-use Rattle.tables.specs.declared.refusal.Checked.TheVariants.{Fine, Refused}
-use Rattle.tables.proofs.Accepted.{then_first, then_second}
+use Rattle.tables.proofs.Accepted.{then_assoc, then_first, then_second}
 use Rattle.tables.proofs.Soundness.{used_facts, accepted_tree, accepted_nodes}
 use Rattle.selection.specs.Lists.{rising, count}
 use Rattle.selection.specs.Operations.{copies, inserted, grafts}
@@ -20,18 +20,16 @@ use Rattle.selection.proofs.Inserting.{Room}
 use Rattle.identities.specs.Documents.{Document}
 use Rattle.identities.specs.Checks.{whole_check}
 use Rattle.identities.specs.Updates.{written, given, inserted_in, nameable, fits_in}
-use Rattle.outcomes.specs.declared.updates.Inserted.{Inserted}
-use Rattle.outcomes.specs.declared.updates.Inserted.TheVariants.{Copied, Refused as NotInserted}
 use Rattle.doc_updates.specs.Updating.{insert_check, insert_answer, Insert}
 use Rattle.doc_updates.specs.Asking.{chosen, tables_check, Asked}
-use Rattle.doc_updates.proofs.Asking.{then_assoc, row_copies, row_points}
+use Rattle.doc_updates.proofs.Asking.{row_copies, row_points}
 use Rattle.identities.proofs.Updates.{fits_tables, fits_ids, named_most}
 use Rattle.doc_updates.proofs.Accepted.{insert_whole, insert_tree, insert_named, insert_fits, copied_fine, refused_told}
 use Rattle.doc_graft.specs.Grafting.{copied_all}
 use Rattle.doc_graft.proofs.Trees.{chosen-grafts}
 use Rattle.doc_insert.specs.Planning.{Small, left_check, Planned, Nameable}
 
-never_copied : {r : Refusal} {n used last : ℕ} → NotInserted r ≡ Copied n used last → ⊥
+never_copied : {r : Refusal} {made : Inserted} → ◌≡◌ {A = Result Inserted Refusal} (Err r) (Ok made) → ⊥
 never_copied e = let z : ◌≡◌ {A = ℕ} 0 1 = cc in omega arith
 
 -- an insert is planned on the row of a read
@@ -52,7 +50,7 @@ module _ (p x : List ℕ) (d : Doc) {before after : List ℕ} {got : Checked}
           identity = h;
         }
 
-    pub tables_on : {n next : ℕ} (words marks ids : ℕ) {answer : Inserted} → n ≡ count (chosen after) d.used →
+    pub tables_on : {n next : ℕ} (words marks ids : ℕ) {answer : Result Inserted Refusal} → n ≡ count (chosen after) d.used →
         answer ≡ insert_answer (left_check (d.used + n * nodes x) (next + n * nodes x) words marks ids) n (d.used + n * nodes x) (next + n * nodes x) →
         Planned (tables_check p x d then left_check (d.used + written p x d) (next + written p x d) words marks ids) p x d next before after answer
     unfolding written
@@ -60,9 +58,9 @@ module _ (p x : List ℕ) (d : Doc) {before after : List ℕ} {got : Checked}
         let same = e ∙ row_copies p d before (asked.row told) in
         record { answered = q ∙ rw (three, same); row = λ copied. asked.row told }
 
-  pub tables_off : {r : Refusal} (rest : Checked) {next : ℕ} → got ≡ Refused r → Planned (tables_check p x d then rest) p x d next before after (NotInserted r)
+  pub tables_off : {r : Refusal} (rest : Checked) {next : ℕ} → got ≡ Err r → Planned (tables_check p x d then rest) p x d next before after (Err r)
   tables_off rest told =
-      let refused : tables_check p x d ≡ Refused _ = sym asked.answered ∙ told in
+      let refused : tables_check p x d ≡ Err _ = sym asked.answered ∙ told in
       record { answered = rw refused; row = λ copied. absurd (never_copied copied) }
 
 -- by the checks of an insert, where identities are right, and where they are not
@@ -78,34 +76,43 @@ module _ (p x : List ℕ) (d : Document) where
       (then_assoc (document_check d.tables) (pattern_check p step_limit 2 then tree_check x tree_limit 3) left
       ∙ rw (then_assoc (pattern_check p step_limit 2) (tree_check x tree_limit 3) left))
 
-  pub planned_on : {before after : List ℕ} {answer : Inserted} → whole_check d ≡ document_check d.tables →
+  pub planned_on : {before after : List ℕ} {answer : Result Inserted Refusal} → whole_check d ≡ document_check d.tables →
       Planned (tables_check p x d.tables then left_check (d.tables.used + written p x d.tables) (d.next + written p x d.tables) (length d.tables.rows) (length d.tables.marks) (length d.ids))
       p x d.tables d.next before after answer →
       Planned (insert_check p x d) p x d.tables d.next before after answer
   unfolding left
   planned_on whole h = record { answered = rw (same_check whole) h.answered; row = h.row }
 
-  pub planned_off : {before after : List ℕ} {why : Refusal} → whole_check d ≡ Refused why → Planned (insert_check p x d) p x d.tables d.next before after (NotInserted why)
+  pub planned_off : {before after : List ℕ} {why : Refusal} → whole_check d ≡ Err why → Planned (insert_check p x d) p x d.tables d.next before after (Err why)
   planned_off refused = record { answered = rw (insert_whole p x d refused); row = λ copied. absurd (never_copied copied) }
 
-module _ (p x : List ℕ) (d : Document) {before after : List ℕ} {answer : Inserted} (planned : Planned (insert_check p x d) p x d.tables d.next before after answer) where
-  module _ {n used last : ℕ} (told : answer ≡ Copied n used last) where
+module _ (p x : List ℕ) (d : Document) {before after : List ℕ} {answer : Result Inserted Refusal} (planned : Planned (insert_check p x d) p x d.tables d.next before after answer) where
+  module _ {n used last : ℕ} (told : answer ≡ Ok (record { copies = n; used = used; next = last })) where
     passes : insert_check p x d ≡ Fine
     passes = copied_fine (insert_check p x d) (copies p d.tables) (d.tables.used + written p x d.tables) (d.next + written p x d.tables) (sym planned.answered ∙ told)
 
     -- so many nodes are written
+    used_is : used ≡ d.tables.used + written p x d.tables
+    used_is =
+        let answered :
+        ◌≡◌ {A = Result Inserted Refusal} (Ok (record { copies = n; used = used; next = last }))
+        (Ok (record { copies = copies p d.tables; used = d.tables.used + written p x d.tables; next = d.next + written p x d.tables }))
+        = sym told ∙ (rw passes at planned.answered)
+        in
+        let made :
+        ◌≡◌ {A = Inserted} (record { copies = n; used = used; next = last })
+        (record { copies = copies p d.tables; used = d.tables.used + written p x d.tables; next = d.next + written p x d.tables })
+        = cc
+        in ap (λ (all : Inserted). all.used) made
+
     grown : used - d.tables.used ≡ written p x d.tables
     grown =
-        let answered : Copied n used last ≡ Copied (copies p d.tables) (d.tables.used + written p x d.tables) (d.next + written p x d.tables) =
-        sym told ∙ (rw passes at planned.answered) in
-        let e : used ≡ d.tables.used + written p x d.tables = cc answered in
+        let e = used_is in
         omega (arith, e)
 
     pub grows : d.tables.used ≤ used
     grows =
-        let answered : Copied n used last ≡ Copied (copies p d.tables) (d.tables.used + written p x d.tables) (d.next + written p x d.tables) =
-        sym told ∙ (rw passes at planned.answered) in
-        let e : used ≡ d.tables.used + written p x d.tables = cc answered in
+        let e = used_is in
         omega (arith, e)
 
     -- there are identities for them, and room
@@ -126,7 +133,7 @@ module _ (p x : List ℕ) (d : Document) {before after : List ℕ} {answer : Ins
     pub insert_done : Bits16 x → Bits16 d.tables.rows → {rows marks ids : List ℕ} {end : ℕ} →
         doc rows marks end ≡ copied_all x (rising (chosen after) d.tables.used) d.tables →
         ids ≡ given d.ids d.tables.used (used - d.tables.used) d.next →
-        Insert p x d d.tables.rows d.tables.marks d.ids rows marks ids (Copied n used last)
+        Insert p x d d.tables.rows d.tables.marks d.ids rows marks ids (Ok (record { copies = n; used = used; next = last }))
     unfolding inserted inserted_in
     insert_done words table copied named =
         let same = row_points p d.tables before (planned.row told) in
@@ -138,9 +145,9 @@ module _ (p x : List ℕ) (d : Document) {before after : List ℕ} {answer : Ins
           ids = rw passes (named ∙ rw grown);
         }
 
-  pub insert_refused : {r : Refusal} → answer ≡ NotInserted r →
-      Insert p x d d.tables.rows d.tables.marks d.ids d.tables.rows d.tables.marks d.ids (NotInserted r)
+  pub insert_refused : {r : Refusal} → answer ≡ Err r →
+      Insert p x d d.tables.rows d.tables.marks d.ids d.tables.rows d.tables.marks d.ids (Err r)
   insert_refused told =
-      let refused : insert_check p x d ≡ Refused _ =
+      let refused : insert_check p x d ≡ Err _ =
       refused_told (insert_check p x d) (copies p d.tables) (d.tables.used + written p x d.tables) (d.next + written p x d.tables) (sym planned.answered ∙ told) in
       record { answered = sym told ∙ planned.answered; rows = rw refused; marks = rw refused; ids = rw refused }

@@ -21,17 +21,22 @@ use doc_read::read::reading;
 use doc_room::{counted, room};
 use outcomes::updates::Inserted;
 use tables::limits::{TREE_LIMIT, USED_LIMIT};
-use tables::refusal::Checked;
+use tables::refusal::Refusal;
 
 // The refusals of the document, the pattern and the tree, and the row of selected nodes where there is none.
-fn asked(p: &[u16], x: &[u16], rows: &[u16], marks: &[u8], used: usize, row: &mut [u8]) -> Checked
+fn asked(
+    p: &[u16],
+    x: &[u16],
+    rows: &[u16],
+    marks: &[u8],
+    used: usize,
+    row: &mut [u8],
+) -> Result<(), Refusal>
     requires { used_limit ≤ length row.old }
     ensures { Asked (tables_check p.now x.now (doc rows.now marks.now used)) p.now (doc rows.now marks.now used) row.old row.new result }
 {
-    match reading(p, 2, rows, marks, used, row) {
-        Checked::Fine => tree(x, TREE_LIMIT, 3),
-        Checked::Refused(r) => Checked::Refused(r),
-    }
+    reading(p, 2, rows, marks, used, row)?;
+    tree(x, TREE_LIMIT, 3)
 }
 
 // The answer of an insert of so many copies of so many nodes, into tables and a row of identities of these lengths.
@@ -43,17 +48,19 @@ fn answered(
     words: usize,
     marks: usize,
     ids: usize,
-) -> Inserted
+) -> Result<Inserted, Refusal>
     requires { Small used copies nodes next }
     ensures { result ≡ insert_answer (left_check (used + copies * nodes) (next + copies * nodes) words marks ids) copies (used + copies * nodes) (next + copies * nodes) }
 {
     let new = copies * nodes;
     let end = used + new;
     let last = next + new;
-    match room(end, last, words, marks, ids) {
-        Checked::Fine => Inserted::Copied(copies, end, last),
-        Checked::Refused(r) => Inserted::Refused(r),
-    }
+    room(end, last, words, marks, ids)?;
+    Ok(Inserted {
+        copies,
+        used: end,
+        next: last,
+    })
 }
 
 // The answer of an insert before anything is written, and the row of selected nodes where there is room. The row of identities has so many,
@@ -67,25 +74,21 @@ fn planned_tables(
     ids: usize,
     next: u32,
     row: &mut [u8],
-) -> Inserted
+) -> Result<Inserted, Refusal>
     requires { used_limit ≤ length row.old }
     ensures { Planned (tables_check p.now x.now (doc rows.now marks.now used) then left_check (used + written p.now x.now (doc rows.now marks.now used)) (next + written p.now x.now (doc rows.now marks.now used)) (length rows.now) (length marks.now) ids) p.now x.now (doc rows.now marks.now used) next row.old row.new result }
 {
-    match asked(p, x, rows, marks, used, row) {
-        Checked::Fine => {
-            let copies = counted(row, used);
-            answered(
-                used,
-                copies,
-                x.len() / 2,
-                next as usize,
-                rows.len(),
-                marks.len(),
-                ids,
-            )
-        }
-        Checked::Refused(r) => Inserted::Refused(r),
-    }
+    asked(p, x, rows, marks, used, row)?;
+    let copies = counted(row, used);
+    answered(
+        used,
+        copies,
+        x.len() / 2,
+        next as usize,
+        rows.len(),
+        marks.len(),
+        ids,
+    )
 }
 
 // The same, where identities may be wrong.
@@ -98,13 +101,13 @@ fn planned(
     ids: &[u32],
     next: u32,
     row: &mut [u8],
-) -> Inserted
+) -> Result<Inserted, Refusal>
     requires { used_limit ≤ length row.old }
     ensures { Planned (insert_check p.now x.now (document rows.now marks.now used ids.now next)) p.now x.now (doc rows.now marks.now used) next row.old row.new result }
 {
     match identities(ids, used, next) {
-        Checked::Fine => planned_tables(p, x, rows, marks, used, ids.len(), next, row),
-        Checked::Refused(r) => Inserted::Refused(refusal_before(rows, marks, used, r)),
+        Ok(()) => planned_tables(p, x, rows, marks, used, ids.len(), next, row),
+        Err(r) => Err(refusal_before(rows, marks, used, r)),
     }
 }
 
@@ -117,16 +120,12 @@ pub fn insert(
     used: usize,
     ids: &mut [u32],
     next: u32,
-) -> Inserted
+) -> Result<Inserted, Refusal>
     ensures { Insert p.now x.now (document rows.old marks.old used ids.old next) rows.old marks.old ids.old rows.new marks.new ids.new result }
 {
     let mut row = [0u8; USED_LIMIT];
-    match planned(p, x, rows, marks, used, ids, next, &mut row) {
-        Inserted::Copied(copies, end, last) => {
-            grafts(x, rows, marks, used, &row);
-            name_copies(ids, used, end - used, next);
-            Inserted::Copied(copies, end, last)
-        }
-        Inserted::Refused(r) => Inserted::Refused(r),
-    }
+    let made = planned(p, x, rows, marks, used, ids, next, &mut row)?;
+    grafts(x, rows, marks, used, &row);
+    name_copies(ids, used, made.used - used, next);
+    Ok(made)
 }

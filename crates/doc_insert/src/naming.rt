@@ -10,10 +10,8 @@ fn give(n: usize, next: u32, free: &mut [u32])
     requires { (n ≤ length free.old) × (next + n ≤ identity_limit) }
     ensures { free.new ≡ tab (λ k. next + k) n ++ drop n free.old }
 {
-    let mut k = 0;
-    while k < n {
+    for k in 0..n {
         free[k] = next + k as u32;
-        k += 1;
     }
 }
 

@@ -10,8 +10,7 @@ use lib.ListN.{length, get_or, drop}
 use borrow.Author.Tests.{ne_eqb}
 use Rattle.tables.specs.Words.{parent}
 use Rattle.tables.specs.Documents.{Doc, mark}
-use Rattle.tables.specs.Checks.{shape_check}
-use Rattle.tables.specs.declared.refusal.Checked.TheVariants.{Fine}
+use Rattle.tables.specs.Checks.{shape_check, Fine}
 use Rattle.tables.proofs.Soundness.{shape_facts, shape_nodes, node_top}
 use Rattle.selection.specs.Lists.{tab, count}
 use Rattle.selection.proofs.Lists.{count_most, count_mono, count_holds, length-behind}

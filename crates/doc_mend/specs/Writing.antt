@@ -1,12 +1,12 @@
 -- Inside: what each step of a mending asks and gives.
-use Rattle.std.specs.Prelude.{ℕ, ◌+◌, ◌*◌, ◌<◌, ◌≤◌, ◌≡◌, cond, List, ◌≢◌, eqb, length, get_or, set}
+use Rattle.tables.specs.declared.refusal.Refusal.{Refusal}
+use Rattle.std.specs.Prelude.{ℕ, ◌+◌, ◌*◌, ◌<◌, ◌≤◌, ◌≡◌, cond, List, ◌≢◌, eqb, length, get_or, set, Result}
 use Rattle.tables.specs.Limits.{used_limit}
 use Rattle.tables.specs.Words.{parent}
 use Rattle.tables.specs.Documents.{Doc}
 use Rattle.tables.specs.Checks.{where_fine, output_check}
 use Rattle.mending.specs.Mending.{mended_marks, changes, change_list}
 use Rattle.doc_mend.specs.Promise.{mend_answer}
-use Rattle.outcomes.specs.declared.updates.Mended.{Mended}
 
 -- the mended mark of v, whose own mark is `old`, where those of the nodes before it stand in the row: 0 for the root; else 1 where its own is not 0, else that of its parent
 abbrev pub following : List ℕ → ℕ → List ℕ → ℕ → ℕ
@@ -37,7 +37,7 @@ pub record Put (v new at : ℕ) (marks₀ list₀ marks₁ list₁ : List ℕ) (
   pub next : n ≡ cond (eqb (get_or marks₀ v 0) new) at (at + 3)
 
 -- a document whose shape is right: refused by 7, or its marks mended and their changes listed
-pub record Written (d : Doc) (list₀ marks₁ list₁ : List ℕ) (answer : Mended) : Type 0 where
+pub record Written (d : Doc) (list₀ marks₁ list₁ : List ℕ) (answer : Result ℕ Refusal) : Type 0 where
   pub answered : answer ≡ mend_answer (output_check (3 * changes d) (length list₀)) (changes d)
   pub marks : marks₁ ≡ where_fine (output_check (3 * changes d) (length list₀)) (mended_marks d) d.marks
   pub list : list₁ ≡ where_fine (output_check (3 * changes d) (length list₀)) (change_list d list₀) list₀

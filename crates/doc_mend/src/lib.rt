@@ -13,17 +13,14 @@ ghost use Rattle.doc_mend.specs.Promise.{Mend};
 use crate::marks::written;
 use check_document::shape;
 use check_identities::identities;
-use outcomes::updates::Mended;
-use tables::refusal::Checked;
+use tables::refusal::Refusal;
 
 // What is asked before the list is made: 12 for the used count, node by node 4 then 5, 12 for identities.
-fn mendable(rows: &[u16], marks: &[u8], used: usize, ids: &[u32], next: u32) -> Checked
+fn mendable(rows: &[u16], marks: &[u8], used: usize, ids: &[u32], next: u32) -> Result<(), Refusal>
     ensures { result ≡ (shape_check (doc rows.now marks.now used) then identities_check ids.now used next) }
 {
-    match shape(rows, marks, used) {
-        Checked::Fine => identities(ids, used, next),
-        Checked::Refused(r) => Checked::Refused(r),
-    }
+    shape(rows, marks, used)?;
+    identities(ids, used, next)
 }
 
 // Mending: the root's mark becomes 0, any other above 1 becomes 1, then each present node under a removed one becomes removed. The list takes three words
@@ -35,11 +32,9 @@ pub fn mend(
     ids: &[u32],
     next: u32,
     list: &mut [u16],
-) -> Mended
+) -> Result<usize, Refusal>
     ensures { Mend (document rows.now marks.old used ids.now next) marks.old list.old marks.new list.new result }
 {
-    match mendable(rows, marks, used, ids, next) {
-        Checked::Fine => written(rows, marks, used, list),
-        Checked::Refused(r) => Mended::Refused(r),
-    }
+    mendable(rows, marks, used, ids, next)?;
+    written(rows, marks, used, list)
 }

@@ -4,15 +4,13 @@ ghost use Rattle.std.specs.Prelude.{◌+◌, ◌*◌, ◌<◌, ◌≤◌, ◌≡
 ghost use Rattle.tables.specs.Limits.{used_limit};
 ghost use Rattle.tables.specs.Words.{parent};
 ghost use Rattle.tables.specs.Documents.{doc};
-ghost use Rattle.tables.specs.Checks.{shape_check};
-ghost use Rattle.tables.specs.declared.refusal.Checked.TheVariants.{Fine};
+ghost use Rattle.tables.specs.Checks.{shape_check, Fine};
 ghost use Rattle.mending.specs.Mending.{mended_marks, changes, change_list};
 ghost use Rattle.doc_mend.specs.Writing.{Reached, Counted, Putting, Put, following, Written};
 
 use check_size::output;
-use outcomes::updates::Mended;
 use tables::limits::USED_LIMIT;
-use tables::refusal::Checked;
+use tables::refusal::Refusal;
 use tables::words::first_word;
 
 // The mended mark of node v, whose own mark is `old`, where those of the nodes before it stand in the row.
@@ -56,10 +54,8 @@ fn count(t: &[u16], m: &[u8], used: usize, row: &mut [u8]) -> usize
     ensures { result ≡ changes (doc t.now m.now used) }
 {
     let mut n = 0;
-    let mut v = 0;
-    while v < used {
+    for v in 0..used {
         n += counted(t, m, row, v);
-        v += 1;
     }
     n
 }
@@ -73,21 +69,14 @@ fn change_count(t: &[u16], m: &[u8], used: usize) -> usize
     count(t, m, used, &mut row)
 }
 
-// A mark as a word.
-fn word(mark: u8) -> u16
-    ensures { result ≡ mark }
-{
-    mark as u16
-}
-
 // Three words of the list, from `at` on: node number, old mark, new mark.
 fn listed(list: &mut [u16], at: usize, v: usize, old: u8, new: u8)
     requires { (v < used_limit) × (at + 2 < length list.old) }
     ensures { list.new ≡ set (set (set list.old at v) (at + 1) old) (at + 2) new }
 {
     list[at] = v as u16;
-    list[at + 1] = word(old);
-    list[at + 2] = word(new);
+    list[at + 1] = u16::from(old);
+    list[at + 2] = u16::from(new);
 }
 
 // The new mark of node v and, where it is another, its three words. Where the next three go.
@@ -119,24 +108,23 @@ fn put_all(t: &[u16], marks: &mut [u8], used: usize, list: &mut [u16])
     ensures { (marks.new ≡ mended_marks (doc t.now marks.old used)) × (list.new ≡ change_list (doc t.now marks.old used) list.old) }
 {
     let mut at = 0;
-    let mut v = 0;
-    while v < used {
+    for v in 0..used {
         at = put_mended(t, marks, list, v, at);
-        v += 1;
     }
 }
 
 // All of it: 7 where the list is too short, else the changes made and listed.
-pub(crate) fn written(t: &[u16], marks: &mut [u8], used: usize, list: &mut [u16]) -> Mended
+pub(crate) fn written(
+    t: &[u16],
+    marks: &mut [u8],
+    used: usize,
+    list: &mut [u16],
+) -> Result<usize, Refusal>
     requires { shape_check (doc t.now marks.old used) ≡ Fine }
     ensures { Written (doc t.now marks.old used) list.old marks.new list.new result }
 {
     let n = change_count(t, marks, used);
-    match output(3 * n, list.len()) {
-        Checked::Fine => {
-            put_all(t, marks, used, list);
-            Mended::Changed(n)
-        }
-        Checked::Refused(r) => Mended::Refused(r),
-    }
+    output(3 * n, list.len())?;
+    put_all(t, marks, used, list);
+    Ok(n)
 }

@@ -1,4 +1,5 @@
 -- From what the checks and the loop give to the promise of the plain reading; the promise fixes answer and row.
+use Rattle.std.specs.Prelude.{Ok, Err}
 use Prim.Native.Nat.{ℕ, ◌≤◌}
 use mathlib.Core.Path.{◌≡◌, refl, sym, ◌∙◌, ap}
 use mathlib.Core.Bool.{cond}
@@ -7,10 +8,8 @@ use lib.ListN.{length, drop}
 use Rattle.tables.specs.Limits.{plain_steps, plain_nodes}
 use Rattle.tables.specs.Words.{nodes, Bits16}
 use Rattle.tables.specs.Documents.{bare}
-use Rattle.tables.specs.Checks.{◌then◌, pattern_check, tree_check, output_check}
+use Rattle.tables.specs.Checks.{◌then◌, pattern_check, tree_check, output_check, Checked, Fine}
 use Rattle.tables.specs.declared.refusal.Refusal.{Refusal}
-use Rattle.tables.specs.declared.refusal.Checked.{Checked}
-use Rattle.tables.specs.declared.refusal.Checked.TheVariants.{Fine, Refused}
 use Rattle.tables.proofs.Accepted.{then_first, then_second, output_room}
 use Rattle.tables.proofs.Soundness.{accepted_pattern, accepted_tree}
 use Rattle.selection.specs.Lists.{tab}
@@ -65,12 +64,12 @@ plain_read p t before words e f filled =
           (room p t (length before) fine));
     }
 
-pub plain_refused : (p t before : List ℕ) {got : Checked} {r : Refusal} → got ≡ plain_check p t (length before) → got ≡ Refused r → PlainRead p t before before (Refused r)
+pub plain_refused : (p t before : List ℕ) {got : Checked} {r : Refusal} → got ≡ plain_check p t (length before) → got ≡ Err r → PlainRead p t before before (Err r)
 plain_refused p t before e f = record { answered = sym f ∙ e; row = refl }
 
 rows_one : (p t before : List ℕ) {a b : List ℕ} (x : Checked) → RowAfter p t before a x → RowAfter p t before b x → a ≡ b
-rows_one p t before Fine f g = row_one f g
-rows_one p t before (Refused r) f g = f ∙ sym g
+rows_one p t before (Ok tt) f g = row_one f g
+rows_one p t before (Err r) f g = f ∙ sym g
 
 -- two answers with their rows that meet the promise are the same
 pub plain_one : {p t before a b : List ℕ} {x y : Checked} → PlainRead p t before a x → PlainRead p t before b y → (x ≡ y) × (a ≡ b)

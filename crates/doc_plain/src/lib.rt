@@ -9,7 +9,7 @@ ghost use Rattle.doc_plain.specs.Plain.{PlainRead};
 ghost use Rattle.doc_plain.specs.Landing.{Asked, Readable, lands_on, reaches_to};
 
 use check_plain::checked;
-use tables::refusal::Checked;
+use tables::refusal::Refusal;
 use tables::words::{first_word, second_word};
 
 // Whether the labels of step i and node v agree: a wildcard with any.
@@ -81,22 +81,16 @@ fn fill(p: &[u16], t: &[u16], row: &mut [u8])
 {
     let n = t.len() / 2;
     let output = p.len() / 2 - 1;
-    let mut v = 0;
-    while v < n {
+    for v in 0..n {
         row[v] = bit(lands(p, t, output, v));
-        v += 1;
     }
 }
 
 // The plain reading of a bare tree: one byte a node, 1 if the pattern selects it, else 0; later bytes stay.
-pub fn plain_reading(p: &[u16], t: &[u16], row: &mut [u8]) -> Checked
+pub fn plain_reading(p: &[u16], t: &[u16], row: &mut [u8]) -> Result<(), Refusal>
     ensures { PlainRead p.now t.now row.old row.new result }
 {
-    match checked(p, t, row.len()) {
-        Checked::Fine => {
-            fill(p, t, row);
-            Checked::Fine
-        }
-        Checked::Refused(r) => Checked::Refused(r),
-    }
+    checked(p, t, row.len())?;
+    fill(p, t, row);
+    Ok(())
 }

@@ -1,4 +1,5 @@
 -- A read is settled by its definition, and its row says which nodes are selected by embeddings.
+use Rattle.std.specs.Prelude.{Err}
 use Prim.Native.Nat.{ℕ}
 use mathlib.Core.Path.{◌≡◌, refl, sym, ◌∙◌, ap}
 use mathlib.Core.List.{List}
@@ -6,8 +7,6 @@ use lib.ListN.{length}
 use Rattle.tables.specs.Limits.{step_limit}
 use Rattle.tables.specs.Documents.{Doc}
 use Rattle.tables.specs.declared.refusal.Refusal.{Refusal}
-use Rattle.tables.specs.declared.refusal.Checked.{Checked}
-use Rattle.tables.specs.declared.refusal.Checked.TheVariants.{Fine, Refused}
 use Rattle.tables.specs.Words.{Bits16}
 use Rattle.tables.proofs.Soundness.{accepted_pattern, accepted_document}
 use Rattle.selection.specs.Embeddings.{Selects}
@@ -15,7 +14,7 @@ use Rattle.selection.specs.Rows.{Row}
 use Rattle.selection.specs.Operations.{read_row}
 use Rattle.selection.proofs.Rows.{read_row_lem}
 use Rattle.check_read.specs.Readable.{read_check, read_tables_check}
-use Rattle.tables.specs.Checks.{where_fine, document_check}
+use Rattle.tables.specs.Checks.{where_fine, document_check, Checked, Fine}
 use Rattle.identities.specs.Documents.{Document}
 use Rattle.identities.specs.Checks.{whole_check}
 use Rattle.doc_read.specs.Reading.{Read, ReadTables}
@@ -58,6 +57,6 @@ unfolding read_check read_tables_check
 tables_read whole r = record { answered = rw whole at r.answered; row = r.row }
 
 -- one that is refused for its document writes nothing
-pub read_refused_whole : {p : List ℕ} {d : Document} {row : List ℕ} {why : Refusal} → whole_check d ≡ Refused why → Read p d row row (Refused why)
+pub read_refused_whole : {p : List ℕ} {d : Document} {row : List ℕ} {why : Refusal} → whole_check d ≡ Err why → Read p d row row (Err why)
 unfolding read_check
 read_refused_whole refused = record { answered = rw refused; row = refl }

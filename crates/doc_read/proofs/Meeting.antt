@@ -1,4 +1,5 @@
 -- What a fine check of a read says, and that its answer and its row are those of the definition.
+use Rattle.std.specs.Prelude.{Ok, Err}
 use Prim.Native.Nat.{ℕ, ◌<◌, ◌≤◌}
 use mathlib.Core.Path.{◌≡◌, refl, sym, ◌∙◌}
 use mathlib.Core.List.{List}
@@ -6,10 +7,8 @@ use lib.ListN.{length}
 use Rattle.tables.specs.Limits.{step_limit}
 use Rattle.tables.specs.Words.{steps}
 use Rattle.tables.specs.Documents.{Doc}
-use Rattle.tables.specs.Checks.{◌then◌, document_check, pattern_check, output_check}
+use Rattle.tables.specs.Checks.{◌then◌, document_check, pattern_check, output_check, Checked, Fine}
 use Rattle.tables.specs.declared.refusal.Refusal.{Refusal}
-use Rattle.tables.specs.declared.refusal.Checked.{Checked}
-use Rattle.tables.specs.declared.refusal.Checked.TheVariants.{Fine, Refused}
 use Rattle.tables.proofs.Accepted.{then_first, then_second, output_room}
 use Rattle.tables.proofs.Soundness.{accepted_pattern, accepted_steps, node_falls, document-nodes, used_facts}
 use Rattle.check_read.specs.Readable.{read_tables_check}
@@ -53,7 +52,7 @@ module _ (p : List ℕ) (table : ℕ) (d : Doc) (before : List ℕ) {got : Check
   pub read_fine : got ≡ Fine → (wanted : List ℕ) {after : List ℕ} → after ≡ wanted_row p wanted d before → ReadAt p table d wanted before after Fine
   read_fine told wanted q = record { answered = sym told ∙ e; row = q }
 
-  pub read_refused : {r : Refusal} → got ≡ Refused r → (wanted : List ℕ) → ReadAt p table d wanted before before (Refused r)
+  pub read_refused : {r : Refusal} → got ≡ Err r → (wanted : List ℕ) → ReadAt p table d wanted before before (Err r)
   read_refused told wanted = record { answered = sym told ∙ e; row = refl }
 
 -- what a fine check says of the pattern's steps
@@ -66,11 +65,11 @@ module _ (p : List ℕ) (table : ℕ) (d : Doc) (bytes : ℕ) (e : read_tables_c
 
 -- a reading at the last step alone is a read
 pub last_read : {p : List ℕ} {table : ℕ} {d : Doc} {wanted before after : List ℕ} (answer : Checked) → LastWanted p wanted → ReadAt p table d wanted before after answer → ReadTables p table d before after answer
-last_read {p} {table} {d} {before = before} Fine asks r =
+last_read {p} {table} {d} {before = before} (Ok tt) asks r =
     record {
       answered = r.answered;
       row =
           r.row
           ∙ last_row p (fine_some p table d (length before) (sym r.answered)) (fine_few p table d (length before) (sym r.answered)) asks d before;
     }
-last_read (Refused x) asks r = record { answered = r.answered; row = r.row }
+last_read (Err x) asks r = record { answered = r.answered; row = r.row }

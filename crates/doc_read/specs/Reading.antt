@@ -1,8 +1,7 @@
 -- Reading a document: what it answers, and the row that it writes.
 use Rattle.std.specs.Prelude.{ℕ, ◌≡◌, List, length}
 use Rattle.tables.specs.Documents.{Doc}
-use Rattle.tables.specs.declared.refusal.Checked.{Checked}
-use Rattle.tables.specs.Checks.{where_fine}
+use Rattle.tables.specs.Checks.{where_fine, Checked}
 use Rattle.selection.specs.Operations.{read_row}
 use Rattle.identities.specs.Documents.{Document}
 use Rattle.check_read.specs.Readable.{read_check, read_tables_check}

@@ -2,8 +2,7 @@
 use Rattle.std.specs.Prelude.{ℕ, ◌≡◌, Bool, false, ◌&&◌, cond, List, ◌++◌, eqb, length, drop, get_or}
 use Rattle.tables.specs.Words.{steps}
 use Rattle.tables.specs.Documents.{Doc, present}
-use Rattle.tables.specs.declared.refusal.Checked.{Checked}
-use Rattle.tables.specs.Checks.{where_fine}
+use Rattle.tables.specs.Checks.{where_fine, Checked}
 use Rattle.selection.specs.Lists.{tab, somewhere}
 use Rattle.selection.specs.Ways.{up, run}
 use Rattle.check_read.specs.Readable.{read_tables_check}

@@ -3,17 +3,11 @@ ghost use Rattle.std.specs.Prelude.{◌<◌, ◌/◌, ◌≡◌, length, get_or}
 ghost use Rattle.tables.specs.Words.{parent, tag};
 ghost use Rattle.doc_read.specs.Standing.{carried_above, Placed};
 
-fn wide(x: u16) -> usize
-    ensures { result ≡ x }
-{
-    x as usize
-}
-
 pub(crate) fn parent_at(rows: &[u16], v: usize) -> usize
     requires { v < length rows.now / 2 }
     ensures { result ≡ parent rows.now v }
 {
-    wide(rows[2 * v])
+    usize::from(rows[2 * v])
 }
 
 pub(crate) fn label_at(rows: &[u16], v: usize) -> u16

@@ -70,12 +70,10 @@ pub(crate) fn passed(
     let staying = staying(p, from);
     let word = wanted_word(p, from, wanted);
     let mut own = 0;
-    let mut v = 0;
-    while v < used {
+    for v in 0..used {
         let agreeing = agreeing(low, high, label_at(rows, v));
         own = set_of(agreeing, staying, from, rows, v, carry, sets, own);
         sets[v] = own;
         row[v] = shown(byte_at(marks, v), row[v], own, word);
-        v += 1;
     }
 }

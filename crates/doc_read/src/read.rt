@@ -8,7 +8,7 @@ use crate::row::filled;
 use crate::wanted::last_wanted;
 use check_identities::{identities, refusal_before};
 use check_read::checked;
-use tables::refusal::Checked;
+use tables::refusal::Refusal;
 
 // Reading at wanted steps: one byte a used node, 1 if it is present and a step whose byte is 1 stands there, else 0; later bytes of the row stay.
 // The pattern's table at fault is named by the caller.
@@ -20,16 +20,12 @@ pub fn reading_at(
     marks: &[u8],
     used: usize,
     row: &mut [u8],
-) -> Checked
+) -> Result<(), Refusal>
     ensures { ReadAt p.now table (doc rows.now marks.now used) wanted.now row.old row.new result }
 {
-    match checked(p, table, rows, marks, used, row.len()) {
-        Checked::Fine => {
-            filled(p, wanted, rows, marks, used, row);
-            Checked::Fine
-        }
-        Checked::Refused(r) => Checked::Refused(r),
-    }
+    checked(p, table, rows, marks, used, row.len())?;
+    filled(p, wanted, rows, marks, used, row);
+    Ok(())
 }
 
 // Reading tables without identities, the pattern's table at fault named by the caller.
@@ -40,7 +36,7 @@ pub fn reading(
     marks: &[u8],
     used: usize,
     row: &mut [u8],
-) -> Checked
+) -> Result<(), Refusal>
     ensures { ReadTables p.now table (doc rows.now marks.now used) row.old row.new result }
 {
     let wanted = last_wanted(p);
@@ -56,11 +52,11 @@ pub fn read(
     ids: &[u32],
     next: u32,
     row: &mut [u8],
-) -> Checked
+) -> Result<(), Refusal>
     ensures { Read p.now (document rows.now marks.now used ids.now next) row.old row.new result }
 {
     match identities(ids, used, next) {
-        Checked::Fine => reading(p, 1, rows, marks, used, row),
-        Checked::Refused(r) => Checked::Refused(refusal_before(rows, marks, used, r)),
+        Ok(()) => reading(p, 1, rows, marks, used, row),
+        Err(r) => Err(refusal_before(rows, marks, used, r)),
     }
 }

@@ -18,11 +18,7 @@ fn cleared(used: usize, row: &mut [u8])
     requires { used ≤ length row.old }
     ensures { row.new ≡ tab (λ v. 0) used ++ drop used row.old }
 {
-    let mut v = 0;
-    while v < used {
-        row[v] = 0;
-        v += 1;
-    }
+    row[..used].fill(0);
 }
 
 // Each used node's carry: whether the last step of its word stands there.
@@ -30,10 +26,8 @@ fn carry_over(used: usize, sets: &[u64], carry: &mut [u8])
     requires { (used ≤ length sets.now) × (used ≤ length carry.old) }
     ensures { carry.new ≡ tab (λ v. bool_byte (bit (get_or sets.now v 0) 63)) used ++ drop used carry.old }
 {
-    let mut v = 0;
-    while v < used {
+    for v in 0..used {
         carry[v] = has(set_at(sets, v), WORD_STEPS - 1) as u8;
-        v += 1;
     }
 }
 

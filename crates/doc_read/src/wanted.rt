@@ -12,10 +12,8 @@ pub(crate) fn wanted_word(p: &[u16], from: usize, wanted: &[u8]) -> u64
 {
     let m = held(p.len() / 2, from);
     let mut s: u64 = 0;
-    let mut i = 0;
-    while i < m {
+    for i in 0..m {
         s = put(s, i, byte(wanted, from + i) == 1);
-        i += 1;
     }
     s
 }

@@ -5,9 +5,7 @@ use lib.Dec.{eqb, leb}
 use borrow.Author.Tests.{ne_eqb, le-leb, lt-leb}
 use Rattle.tables.specs.Limits.{used_limit, identity_limit}
 use Rattle.tables.specs.Documents.{capacity}
-use Rattle.tables.specs.Checks.{test, refuse}
-use Rattle.tables.specs.declared.refusal.Checked.{Checked}
-use Rattle.tables.specs.declared.refusal.Checked.TheVariants.{Fine}
+use Rattle.tables.specs.Checks.{test, refuse, Checked, Fine}
 use Rattle.selection.proofs.Rows.{bit_most}
 use Rattle.doc_room.specs.Ticking.{ticked}
 

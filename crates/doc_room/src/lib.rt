@@ -10,7 +10,7 @@ ghost use Rattle.doc_updates.specs.Asking.{chosen};
 ghost use Rattle.doc_room.specs.Ticking.{ticked};
 
 use tables::limits::{IDENTITY_LIMIT, USED_LIMIT};
-use tables::refusal::{Checked, refused};
+use tables::refusal::{Reason, Refusal, refused};
 use tables::words::byte;
 
 // 1 for a chosen node, else 0.
@@ -28,10 +28,8 @@ pub fn counted(row: &[u8], used: usize) -> usize
     ensures { result ≡ count (chosen row.now) used }
 {
     let mut n: usize = 0;
-    let mut v = 0;
-    while v < used {
+    for v in 0..used {
         n += one(byte(row, v));
-        v += 1;
     }
     n
 }
@@ -47,33 +45,31 @@ fn lesser(a: usize, b: usize) -> usize
 }
 
 // 11 where so many nodes pass the least of 4,096, half the table's words, the marks and the identities.
-fn fitting(end: usize, words: usize, marks: usize, ids: usize) -> Checked
+fn fitting(end: usize, words: usize, marks: usize, ids: usize) -> Result<(), Refusal>
     ensures { result ≡ test (leb end (min (capacity words marks) ids)) (refuse 11 4 0) }
 {
     let most = lesser(USED_LIMIT, lesser(words / 2, marks));
     let least = lesser(most, ids);
     if least < end {
-        return refused(11, 4, 0);
+        return refused(Reason::Room, 4, 0);
     }
-    Checked::Fine
+    Ok(())
 }
 
 // 16 where the next identity would pass 4,294,967,295.
-fn naming(next: usize) -> Checked
+fn naming(next: usize) -> Result<(), Refusal>
     ensures { result ≡ test (leb next identity_limit) (refuse 16 5 0) }
 {
     if IDENTITY_LIMIT < next {
-        return refused(16, 5, 0);
+        return refused(Reason::Identity, 5, 0);
     }
-    Checked::Fine
+    Ok(())
 }
 
 // The room of an insert behind which there are so many nodes and this next identity: 16, then 11.
-pub fn room(end: usize, next: usize, words: usize, marks: usize, ids: usize) -> Checked
+pub fn room(end: usize, next: usize, words: usize, marks: usize, ids: usize) -> Result<(), Refusal>
     ensures { result ≡ (test (leb next identity_limit) (refuse 16 5 0) then test (leb end (min (capacity words marks) ids)) (refuse 11 4 0)) }
 {
-    match naming(next) {
-        Checked::Fine => fitting(end, words, marks, ids),
-        Checked::Refused(r) => Checked::Refused(r),
-    }
+    naming(next)?;
+    fitting(end, words, marks, ids)
 }

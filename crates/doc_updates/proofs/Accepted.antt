@@ -1,4 +1,5 @@
 -- What the checks of an update say where they are fine.
+use Rattle.std.specs.Prelude.{Result, Ok, Err}
 use Prim.Native.Nat.{ℕ, ◌<◌}
 use mathlib.Core.Path.{◌≡◌, refl}
 use mathlib.Core.Bool.{true}
@@ -10,18 +11,13 @@ use Rattle.tables.specs.Limits.{step_limit, tree_limit}
 use Rattle.tables.specs.Words.{steps}
 use Rattle.tables.specs.Patterns.{Pattern}
 use Rattle.tables.specs.Documents.{Doc}
-use Rattle.tables.specs.Checks.{◌then◌, test, refuse, document_check, pattern_check, tree_check}
+use Rattle.tables.specs.Checks.{◌then◌, test, refuse, document_check, pattern_check, tree_check, Checked, Fine}
 use Rattle.tables.specs.declared.refusal.Refusal.{Refusal}
-use Rattle.tables.specs.declared.refusal.Checked.{Checked}
-use Rattle.tables.specs.declared.refusal.Checked.TheVariants.{Fine, Refused}
 use Rattle.tables.proofs.Accepted.{held, then_first, then_second}
 use Rattle.tables.proofs.Soundness.{accepted_pattern}
 use Rattle.identities.specs.Documents.{Document}
 use Rattle.identities.specs.Checks.{whole_check}
 use Rattle.identities.specs.Updates.{nameable, fits_in}
-use Rattle.outcomes.specs.declared.updates.Deleted.{Deleted}
-use Rattle.outcomes.specs.declared.updates.Deleted.TheVariants.{Removed, Refused as NotDeleted}
-use Rattle.outcomes.specs.declared.updates.Inserted.TheVariants.{Copied, Refused as NotInserted}
 use Rattle.doc_updates.specs.Updating.{delete_check, delete_tables_check, insert_check, delete_answer, insert_answer, delete_refusal}
 
 -- a delete: a document, whatever its check is, then a pattern, and more than one step
@@ -102,24 +98,24 @@ module _ (p x : List ℕ) (d : Document) where
         (then_second (test (nameable p x d) (refuse 16 5 0)) (test (fits_in p x d) (refuse 11 4 0)) (then_second (tree_check x tree_limit 3) room_check behind-pattern))
 
 -- an insert that answers copies met no refusal
-pub copied_fine : (c : Checked) (a b m : ℕ) {n used next : ℕ} → insert_answer c a b m ≡ Copied n used next → c ≡ Fine
-copied_fine Fine a b m e = refl
-copied_fine (Refused r) a b m e = let z : ◌≡◌ {A = ℕ} 0 1 = cc in absurd (omega arith)
+pub copied_fine : (c : Checked) (a b m : ℕ) {n used next : ℕ} → insert_answer c a b m ≡ Ok (record { copies = n; used = used; next = next }) → c ≡ Fine
+copied_fine (Ok tt) a b m e = refl
+copied_fine (Err r) a b m e = let z : ◌≡◌ {A = ℕ} 0 1 = cc in absurd (omega arith)
 
 -- one that answers a refusal met it
-pub refused_told : (c : Checked) (a b m : ℕ) {r : Refusal} → insert_answer c a b m ≡ NotInserted r → c ≡ Refused r
-refused_told Fine a b m e = let z : ◌≡◌ {A = ℕ} 0 1 = cc in absurd (omega arith)
-refused_told (Refused r) a b m e = cc
+pub refused_told : (c : Checked) (a b m : ℕ) {r : Refusal} → insert_answer c a b m ≡ Err r → c ≡ Err r
+refused_told (Ok tt) a b m e = let z : ◌≡◌ {A = ℕ} 0 1 = cc in absurd (omega arith)
+refused_told (Err r) a b m e = cc
 
 -- the same of a delete
-pub removed_fine : (c : Checked) (a : ℕ) {n : ℕ} → Removed n ≡ delete_answer c a → c ≡ Fine
-removed_fine Fine a e = refl
-removed_fine (Refused r) a e = let z : ◌≡◌ {A = ℕ} 0 1 = cc in absurd (omega arith)
+pub removed_fine : (c : Checked) (a : ℕ) {n : ℕ} → Ok n ≡ delete_answer c a → c ≡ Fine
+removed_fine (Ok tt) a e = refl
+removed_fine (Err r) a e = let z : ◌≡◌ {A = ℕ} 0 1 = cc in absurd (omega arith)
 
-pub kept_told : (c : Checked) (a : ℕ) {r : Refusal} → NotDeleted r ≡ delete_answer c a → c ≡ Refused r
-kept_told Fine a e = let z : ◌≡◌ {A = ℕ} 0 1 = cc in absurd (omega arith)
-kept_told (Refused r) a e = cc
+pub kept_told : (c : Checked) (a : ℕ) {r : Refusal} → Err r ≡ delete_answer c a → c ≡ Err r
+kept_told (Ok tt) a e = let z : ◌≡◌ {A = ℕ} 0 1 = cc in absurd (omega arith)
+kept_told (Err r) a e = cc
 
-pub delete_tells : (c : Checked) (a : ℕ) {answer : Deleted} → answer ≡ delete_answer c a → delete_refusal answer ≡ c
-delete_tells Fine a e = rw e
-delete_tells (Refused r) a e = rw e
+pub delete_tells : (c : Checked) (a : ℕ) {answer : Result ℕ Refusal} → answer ≡ delete_answer c a → delete_refusal answer ≡ c
+delete_tells (Ok tt) a e = rw e
+delete_tells (Err r) a e = rw e

@@ -1,4 +1,5 @@
 -- The checks of an update around its reading: the reading's own 7 is never met, since a document uses at most 4,096 nodes.
+use Rattle.std.specs.Prelude.{Ok, Err}
 use Prim.Native.Nat.{ℕ, ◌<◌, ◌≤◌}
 use mathlib.Core.Path.{◌≡◌, refl, sym, ◌∙◌}
 use mathlib.Core.Bool.{cond}
@@ -9,11 +10,9 @@ use lib.ListN.{length}
 use borrow.Author.Tests.{le-leb}
 use Rattle.tables.specs.Limits.{step_limit, used_limit}
 use Rattle.tables.specs.Documents.{Doc}
-use Rattle.tables.specs.Checks.{◌then◌, test, refuse, document_check, pattern_check, output_check}
+use Rattle.tables.specs.Checks.{◌then◌, test, refuse, document_check, pattern_check, output_check, Checked, Fine}
 use Rattle.tables.specs.declared.refusal.Refusal.{Refusal}
-use Rattle.tables.specs.declared.refusal.Checked.{Checked}
-use Rattle.tables.specs.declared.refusal.Checked.TheVariants.{Fine, Refused}
-use Rattle.tables.proofs.Accepted.{never}
+use Rattle.tables.proofs.Accepted.{never, then_assoc}
 use Rattle.tables.proofs.Soundness.{used_facts}
 use Rattle.selection.specs.Lists.{rising, count}
 use Rattle.selection.specs.Ways.{selected}
@@ -28,12 +27,8 @@ use Rattle.doc_updates.proofs.Bits.{bit_flag}
 use Rattle.doc_updates.proofs.Counting.{rising_ext}
 
 then_fine : (a : Checked) → (a then Fine) ≡ a
-then_fine Fine = refl
-then_fine (Refused r) = refl
-
-pub then_assoc : (a b c : Checked) → ((a then b) then c) ≡ (a then b then c)
-then_assoc Fine b c = refl
-then_assoc (Refused r) b c = refl
+then_fine (Ok tt) = refl
+then_fine (Err r) = refl
 
 -- with a byte for 4,096 nodes the checks of a read are the document's and the pattern's
 pub never_short : (p : List ℕ) (table : ℕ) (d : Doc) (bytes : ℕ) → used_limit ≤ bytes → read_tables_check p table d bytes ≡ (document_check d then pattern_check p step_limit table)
@@ -42,8 +37,8 @@ never_short p table d bytes long = go (document_check d) (λ e. rw (le-leb d.use
   where
     go : (c : Checked) → (c ≡ Fine → (pattern_check p step_limit table then test (leb d.used bytes) (refuse 7 4 0)) ≡ pattern_check p step_limit table) →
         (c then pattern_check p step_limit table then test (leb d.used bytes) (refuse 7 4 0)) ≡ (c then pattern_check p step_limit table)
-    go Fine f = f refl
-    go (Refused r) f = refl
+    go (Ok tt) f = f refl
+    go (Err r) f = refl
 
 module _ (p : List ℕ) (d : Doc) (before : List ℕ) (long : used_limit ≤ length before) (rest : Checked) {got : Checked} {after : List ℕ} (read : ReadTables p 2 d before after got) where
   first_two : got ≡ (document_check d then pattern_check p step_limit 2)
@@ -61,7 +56,7 @@ module _ (p : List ℕ) (d : Doc) (before : List ℕ) (long : used_limit ≤ len
   unfolding whole
   asked-on told e = record { answered = e ∙ (rw told at is_whole); row = λ fine. rw told at read.row }
 
-  pub asked_off : {r : Refusal} → got ≡ Refused r → Asked (document_check d then pattern_check p step_limit 2 then rest) p d before after (Refused r)
+  pub asked_off : {r : Refusal} → got ≡ Err r → Asked (document_check d then pattern_check p step_limit 2 then rest) p d before after (Err r)
   unfolding whole
   asked_off told = record { answered = rw told at is_whole; row = λ fine. never refl fine }
 

@@ -1,4 +1,5 @@
 -- What holds after a delete: of one that was refused, and of one that was accepted. The laws are those of its tables; a delete on a document is one on them.
+use Rattle.std.specs.Prelude.{Result, Ok, Err}
 use Prim.Native.Nat.{ℕ, ◌+◌, ◌<◌, ◌≤◌}
 use mathlib.Core.Path.{◌≡◌, refl, sym, ◌∙◌, ap}
 use mathlib.Core.Bool.{Bool, true, false, ◌&&◌, not, and-false, and-true, false≢true}
@@ -7,8 +8,7 @@ use lib.ListN.{length}
 use Rattle.tables.specs.Words.{Bits16}
 use Rattle.tables.specs.Documents.{Doc, doc, mark, present, Sound}
 use Rattle.tables.specs.declared.refusal.Refusal.{Refusal}
-use Rattle.tables.specs.Checks.{document_check}
-use Rattle.tables.specs.declared.refusal.Checked.TheVariants.{Fine, Refused}
+use Rattle.tables.specs.Checks.{document_check, Fine}
 use Rattle.tables.proofs.Soundness.{used_facts, accepted_document}
 use Rattle.selection.specs.Lists.{count}
 use Rattle.selection.specs.Ways.{up, selected}
@@ -21,18 +21,16 @@ use Rattle.selection.proofs.Deleting.{present-deleted, deleted_selects, deleted-
 use Rattle.identities.specs.Documents.{Document}
 use Rattle.identities.specs.Checks.{whole_check}
 use Rattle.identities.proofs.Checks.{whole_identities, whole_right}
-use Rattle.outcomes.specs.declared.updates.Deleted.{Deleted}
-use Rattle.outcomes.specs.declared.updates.Deleted.TheVariants.{Removed, Refused as NotDeleted}
 use Rattle.doc_updates.specs.Updating.{delete_check, delete_tables_check, Delete, DeleteTables}
 use Rattle.doc_updates.proofs.Accepted.{delete_document, delete_tables_document, delete_tables_steps, removed_fine, kept_told}
 
 -- a refused delete changes no mark
-pub delete_same : {p : List ℕ} {d : Document} {before after : List ℕ} {r : Refusal} → Delete p d before after (NotDeleted r) → after ≡ before
+pub delete_same : {p : List ℕ} {d : Document} {before after : List ℕ} {r : Refusal} → Delete p d before after (Err r) → after ≡ before
 delete_same {p} {d} done = rw (kept_told (delete_check p d) (removed p d.tables) done.answered) at done.marks
 
 module _ {p : List ℕ} {d : Document} {before after : List ℕ} where
   -- where the identities are right, the delete is that of the tables, both ways
-  module _ {answer : Deleted} (whole : whole_check d ≡ document_check d.tables) where
+  module _ {answer : Result ℕ Refusal} (whole : whole_check d ≡ document_check d.tables) where
     pub delete_tables : DeleteTables p d.tables before after answer → Delete p d before after answer
     unfolding delete_check delete_tables_check
     delete_tables done = record { answered = rw whole done.answered; marks = rw whole done.marks }
@@ -42,23 +40,23 @@ module _ {p : List ℕ} {d : Document} {before after : List ℕ} where
     tables_delete done = record { answered = rw whole at done.answered; marks = rw whole at done.marks }
 
   -- it is where it works
-  pub removed_tables : {n : ℕ} → Delete p d before after (Removed n) → DeleteTables p d.tables before after (Removed n)
+  pub removed_tables : {n : ℕ} → Delete p d before after (Ok n) → DeleteTables p d.tables before after (Ok n)
   removed_tables done =
       let fine = delete_document p d (removed_fine (delete_check p d) (removed p d.tables) done.answered) in
       tables_delete (whole_right d (whole_identities d fine)) done
 
 -- and where they are wrong it is refused
-pub delete_refused_whole : {p : List ℕ} {d : Document} {marks : List ℕ} {why : Refusal} → whole_check d ≡ Refused why → Delete p d marks marks (NotDeleted why)
+pub delete_refused_whole : {p : List ℕ} {d : Document} {marks : List ℕ} {why : Refusal} → whole_check d ≡ Err why → Delete p d marks marks (Err why)
 unfolding delete_check
 delete_refused_whole refused = record { answered = rw refused; marks = rw refused }
 
-module _ (p : List ℕ) (d : Doc) {after : List ℕ} {n : ℕ} (done : DeleteTables p d d.marks after (Removed n)) where
+module _ (p : List ℕ) (d : Doc) {after : List ℕ} {n : ℕ} (done : DeleteTables p d d.marks after (Ok n)) where
   -- it met no refusal
   pub delete_fine : delete_tables_check p d ≡ Fine
   delete_fine = removed_fine (delete_tables_check p d) (removed p d) done.answered
 
   number : n ≡ removed p d
-  number = let e : Removed n ≡ Removed (removed p d) = rw delete_fine at done.answered in cc
+  number = let e : Ok n ≡ Ok (removed p d) = rw delete_fine at done.answered in cc
 
   marks : after ≡ (deleted p d).marks
   marks = rw delete_fine at done.marks

@@ -1,4 +1,7 @@
 -- What holds after an insert: of one that was refused, and of one that was accepted.
+use Rattle.std.specs.Prelude.{Result, Ok, Err}
+use Rattle.outcomes.specs.declared.updates.Inserted.{Inserted}
+use Rattle.tables.specs.Checks.{Fine}
 use Prim.Native.Nat.{ℕ, ◌+◌, ◌*◌, ◌<◌, ◌≤◌}
 use mathlib.Core.Path.{◌≡◌, sym, ◌∙◌, ap}
 use mathlib.Core.List.{List}
@@ -7,7 +10,6 @@ use Rattle.tables.specs.Limits.{tree_limit}
 use Rattle.tables.specs.Words.{nodes, Bits16}
 use Rattle.tables.specs.Documents.{Doc, doc, bare, mark, Sound}
 use Rattle.tables.specs.declared.refusal.Refusal.{Refusal}
-use Rattle.tables.specs.declared.refusal.Checked.TheVariants.{Fine}
 use Rattle.tables.proofs.Soundness.{accepted_document, accepted_tree}
 use Rattle.selection.specs.Lists.{count}
 use Rattle.selection.specs.Ways.{up, selected}
@@ -17,31 +19,37 @@ use Rattle.selection.proofs.Inserting.{Room, copies-count, inserted_used, insert
 use Rattle.identities.specs.Documents.{Document, document}
 use Rattle.identities.specs.Updates.{written, inserted_in}
 use Rattle.identities.proofs.Checks.{whole_tables}
-use Rattle.outcomes.specs.declared.updates.Inserted.TheVariants.{Copied, Refused as NotInserted}
 use Rattle.doc_updates.specs.Updating.{insert_check, Insert}
 use Rattle.identities.proofs.Updates.{fits_tables}
 use Rattle.doc_updates.proofs.Accepted.{insert_document, insert_tree, insert_fits, copied_fine, refused_told}
 
 -- a refused insert changes no row
 pub insert_same : {p x : List ℕ} {d : Document} {rows₀ marks₀ ids₀ rows₁ marks₁ ids₁ : List ℕ} {r : Refusal} →
-    Insert p x d rows₀ marks₀ ids₀ rows₁ marks₁ ids₁ (NotInserted r) → (rows₁ ≡ rows₀) × (marks₁ ≡ marks₀) × (ids₁ ≡ ids₀)
+    Insert p x d rows₀ marks₀ ids₀ rows₁ marks₁ ids₁ (Err r) → (rows₁ ≡ rows₀) × (marks₁ ≡ marks₀) × (ids₁ ≡ ids₀)
 insert_same {p} {x} {d} done =
     let refused =
     refused_told (insert_check p x d) (copies p d.tables) (d.tables.used + written p x d.tables) (d.next + written p x d.tables) (sym done.answered) in
     (rw refused at done.rows, rw refused at done.marks, rw refused at done.ids)
 
 module _ (p x : List ℕ) (d : Document) {rows marks ids : List ℕ} {n used next : ℕ}
-    (done : Insert p x d d.tables.rows d.tables.marks d.ids rows marks ids (Copied n used next)) where
+    (done : Insert p x d d.tables.rows d.tables.marks d.ids rows marks ids (Ok (record { copies = n; used = used; next = next }))) where
   -- it met no refusal
   pub insert_fine : insert_check p x d ≡ Fine
   insert_fine = copied_fine (insert_check p x d) (copies p d.tables) (d.tables.used + written p x d.tables) (d.next + written p x d.tables) (sym done.answered)
 
-  told : Copied n used next ≡ Copied (copies p d.tables) (d.tables.used + written p x d.tables) (d.next + written p x d.tables)
-  told = rw insert_fine at done.answered
+  told :
+      ◌≡◌ {A = Inserted} (record { copies = n; used = used; next = next })
+      (record { copies = copies p d.tables; used = d.tables.used + written p x d.tables; next = d.next + written p x d.tables })
+  told =
+      let e :
+      ◌≡◌ {A = Result Inserted Refusal} (Ok (record { copies = n; used = used; next = next }))
+      (Ok (record { copies = copies p d.tables; used = d.tables.used + written p x d.tables; next = d.next + written p x d.tables }))
+      = rw insert_fine at done.answered
+      in cc
 
   -- a copy for each selected node
   pub insert_number : n ≡ copies p d.tables
-  insert_number = cc told
+  insert_number = ap (λ (made : Inserted). made.copies) told
 
   pub insert_copies : n ≡ count (selected p d.tables) d.tables.used
   insert_copies = insert_number ∙ copies-count p d.tables
@@ -49,7 +57,7 @@ module _ (p x : List ℕ) (d : Document) {rows marks ids : List ℕ} {n used nex
   -- used count and next identity grow by copies times nodes
   used_told : used ≡ d.tables.used + copies p d.tables * nodes x
   unfolding written
-  used_told = cc told
+  used_told = ap (λ (made : Inserted). made.used) told
 
   pub insert_used : used ≡ d.tables.used + n * nodes x
   insert_used =
@@ -61,7 +69,7 @@ module _ (p x : List ℕ) (d : Document) {rows marks ids : List ℕ} {n used nex
   unfolding written
   insert_next =
       let e : n ≡ copies p d.tables = insert_number in
-      let f : next ≡ d.next + copies p d.tables * nodes x = cc told in
+      let f : next ≡ d.next + copies p d.tables * nodes x = ap (λ (made : Inserted). made.next) told in
       rw e f
 
   -- the tables after it, and the whole document
@@ -77,7 +85,7 @@ module _ (p x : List ℕ) (d : Document) {rows marks ids : List ℕ} {n used nex
   unfolding inserted_in
   insert_doc =
       let i : ids ≡ (inserted_in p x d).ids = rw insert_fine at done.ids in
-      let m : next ≡ (inserted_in p x d).next = cc told in
+      let m : next ≡ (inserted_in p x d).next = ap (λ (made : Inserted). made.next) told in
       rw (i, m, insert_tables)
 
   room : Room p x d.tables

@@ -6,8 +6,7 @@ use mathlib.Core.List.{List}
 use native.Mathlib.Omega.{arith}
 use Rattle.tables.specs.Words.{steps}
 use Rattle.tables.specs.Documents.{Doc, bare, mark, Sound}
-use Rattle.tables.specs.Checks.{document_check}
-use Rattle.tables.specs.declared.refusal.Checked.TheVariants.{Fine}
+use Rattle.tables.specs.Checks.{document_check, Fine}
 use Rattle.tables.proofs.Soundness.{used_facts, mark-bit, sound_accepted}
 use Rattle.selection.specs.Operations.{struck, deleted, inserted, copies}
 use Rattle.selection.proofs.Deleting.{deleted_used, deleted-mark, deleted-length, deleted_sound}

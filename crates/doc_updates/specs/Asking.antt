@@ -2,9 +2,7 @@
 use Rattle.std.specs.Prelude.{ℕ, ◌<◌, ◌≡◌, Bool, cond, List, eqb, get_or}
 use Rattle.tables.specs.Limits.{step_limit, tree_limit}
 use Rattle.tables.specs.Documents.{Doc}
-use Rattle.tables.specs.Checks.{◌then◌, document_check, pattern_check, tree_check}
-use Rattle.tables.specs.declared.refusal.Checked.{Checked}
-use Rattle.tables.specs.declared.refusal.Checked.TheVariants.{Fine}
+use Rattle.tables.specs.Checks.{◌then◌, document_check, pattern_check, tree_check, Checked, Fine}
 use Rattle.selection.specs.Ways.{selected}
 use Rattle.selection.specs.Operations.{read_row}
 

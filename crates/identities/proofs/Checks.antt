@@ -1,4 +1,5 @@
 -- The check of identities is fine exactly if they are right, and that of a document exactly if those of its tables and of its identities are.
+use Rattle.std.specs.Prelude.{Ok, Err}
 use Prim.Native.Nat.{ℕ, zero, suc, ◌<◌, ◌≤◌}
 use mathlib.Core.Path.{◌≡◌, refl}
 use mathlib.Core.Bool.{true, and-eq-true_iff}
@@ -10,9 +11,7 @@ use lib.Dec.{ltb, leb}
 use lib.ListN.{length, get_or}
 use borrow.Author.Tests.{ltb-true, leb-true, lt-ltb, le-leb, ne_eqb}
 use Rattle.tables.specs.Words.{Bits16}
-use Rattle.tables.specs.Checks.{◌then◌, test, refuse, each, document_check}
-use Rattle.tables.specs.declared.refusal.Checked.{Checked}
-use Rattle.tables.specs.declared.refusal.Checked.TheVariants.{Fine, Refused}
+use Rattle.tables.specs.Checks.{◌then◌, test, refuse, each, document_check, Checked, Fine}
 use Rattle.tables.proofs.Accepted.{held, then_first, then_second, then_both, each_fine, each_all}
 use Rattle.tables.proofs.Soundness.{accepted_document}
 use Rattle.selection.proofs.Lists.{below_suc}
@@ -91,8 +90,8 @@ module _ (d : Document) where
   whole_right e = rw e (go (document_check d.tables))
     where
       go : (c : Checked) → (c then Fine) ≡ c
-      go Fine = refl
-      go (Refused r) = refl
+      go (Ok tt) = refl
+      go (Err r) = refl
 
   -- a document that meets no refusal has right identities, and is sound where its words have 16 bits
   pub whole_identified : whole_check d ≡ Fine → Identified d

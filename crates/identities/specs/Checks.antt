@@ -1,7 +1,6 @@
 -- The check of a document with identities: document 01's order for its tables, then 12 for the identities.
 use Rattle.std.specs.Prelude.{ℕ, pred, Bool, true, ◌&&◌, cond, List, eqb, ltb, leb, length, get_or}
-use Rattle.tables.specs.Checks.{◌then◌, test, refuse, each, document_check}
-use Rattle.tables.specs.declared.refusal.Checked.{Checked}
+use Rattle.tables.specs.Checks.{◌then◌, test, refuse, each, document_check, Checked}
 use Rattle.identities.specs.Documents.{Document}
 
 -- an identity is below the next one, and above that of the node before

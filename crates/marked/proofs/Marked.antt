@@ -1,4 +1,5 @@
 -- P1 to P15 hold: one test, computed over the whole list, and one law that turns it into the claim for each example.
+use Rattle.std.specs.Prelude.{Ok, Err}
 use Prim.Native.Nat.{ℕ, zero, suc, ◌<◌}
 use mathlib.Core.Path.{◌≡◌, refl, sym, ◌∙◌}
 use mathlib.Core.Bool.{Bool, true, false, ◌&&◌, ◌||◌, not, false≢true}
@@ -11,9 +12,7 @@ use borrow.Author.Tests.{eqb-true, ltb-true, ltb-false, not-true}
 use Rattle.tables.specs.Limits.{step_limit, tree_limit, word_limit}
 use Rattle.tables.specs.Words.{steps, label, Bits16}
 use Rattle.tables.specs.Patterns.{Pattern}
-use Rattle.tables.specs.Checks.{pattern_check, tree_check, size_check, each, axis_check, axis_right, node_check, parent_right}
-use Rattle.tables.specs.declared.refusal.Checked.{Checked}
-use Rattle.tables.specs.declared.refusal.Checked.TheVariants.{Fine, Refused}
+use Rattle.tables.specs.Checks.{pattern_check, tree_check, size_check, each, axis_check, axis_right, node_check, parent_right, Checked, Fine}
 use Rattle.tables.proofs.Soundness.{accepted_pattern, accepted_tree}
 use Rattle.selection.specs.Ways.{up, ups}
 use Rattle.selection.proofs.Runs.{either, both}
@@ -28,13 +27,13 @@ use Rattle.conflict.proofs.Deeps.{touching}
 use Rattle.marked.specs.Marked.{Said, Said.nothing, Said.says_yes, Said.says_no, Example, examples, point_above, DeepClaim, Claim, Every, Every.none, Every.more, Marked}
 
 fine : Checked → Bool
-fine Fine = true
-fine (Refused r) = false
+fine (Ok tt) = true
+fine (Err r) = false
 
 is_fine : (c : Checked) → fine c ≡ true → c ≡ Fine
 unfolding fine
-is_fine Fine e = refl
-is_fine (Refused r) e = absurd (false≢true e)
+is_fine (Ok tt) e = refl
+is_fine (Err r) e = absurd (false≢true e)
 
 unfoldable pub small : List ℕ → Bool
 small [] = true

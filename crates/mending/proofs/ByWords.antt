@@ -10,8 +10,7 @@ use native.Mathlib.Omega.{arith}
 use lib.ListN.{length, get_or}
 use lib.Seq.{ext_get_or}
 use Rattle.tables.specs.Documents.{Doc, mark}
-use Rattle.tables.specs.Checks.{shape_check}
-use Rattle.tables.specs.declared.refusal.Checked.TheVariants.{Fine}
+use Rattle.tables.specs.Checks.{shape_check, Fine}
 use Rattle.tables.proofs.Soundness.{shape_facts}
 use Rattle.selection.specs.Lists.{count}
 use Rattle.selection.proofs.Lists.{count_holds}

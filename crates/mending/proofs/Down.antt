@@ -10,8 +10,7 @@ use lib.Dec.{eqb}
 use borrow.Author.Tests.{ne_eqb}
 use Rattle.tables.specs.Words.{parent}
 use Rattle.tables.specs.Documents.{Doc, mark}
-use Rattle.tables.specs.Checks.{shape_check}
-use Rattle.tables.specs.declared.refusal.Checked.TheVariants.{Fine}
+use Rattle.tables.specs.Checks.{shape_check, Fine}
 use Rattle.tables.proofs.Soundness.{shape_nodes, node_falls}
 use Rattle.mending.specs.Mending.{mended_mark}
 use Rattle.mending.proofs.Marks.{mended-bit, mended_node}

@@ -6,8 +6,7 @@ use native.Mathlib.Decide.{map_dec, ℕ_discrete}
 use native.Mathlib.Omega.{arith}
 use Rattle.tables.specs.Words.{parent}
 use Rattle.tables.specs.Documents.{Doc, mark}
-use Rattle.tables.specs.Checks.{shape_check}
-use Rattle.tables.specs.declared.refusal.Checked.TheVariants.{Fine}
+use Rattle.tables.specs.Checks.{shape_check, Fine}
 use Rattle.selection.specs.Embeddings.{Child, Below, Below.one, Below.more, AtOrBelow}
 use Rattle.mending.specs.Mending.{mended_mark}
 use Rattle.mending.specs.ByWords.{Gone}

@@ -7,8 +7,7 @@ use lib.ListN.{length, get_or, drop}
 use borrow.Author.Tests.{ne_eqb, le-leb}
 use Rattle.tables.specs.Words.{parent}
 use Rattle.tables.specs.Documents.{Doc, doc, mark}
-use Rattle.tables.specs.Checks.{each, used_check, shape_check, mark_right, mark_check, document_check}
-use Rattle.tables.specs.declared.refusal.Checked.TheVariants.{Fine}
+use Rattle.tables.specs.Checks.{each, used_check, shape_check, mark_right, mark_check, document_check, Fine}
 use Rattle.tables.proofs.Accepted.{each_all, then_both}
 use Rattle.tables.proofs.Soundness.{shape_facts, document_parts}
 use Rattle.selection.proofs.Lists.{get_or-tab-before, get_or-tab-behind, length-tab-drop}

@@ -8,8 +8,7 @@ use native.Mathlib.Omega.{arith}
 use lib.ListN.{length, take-append-drop}
 use Rattle.tables.specs.Words.{parent}
 use Rattle.tables.specs.Documents.{Doc, mark}
-use Rattle.tables.specs.Checks.{shape_check, document_check}
-use Rattle.tables.specs.declared.refusal.Checked.TheVariants.{Fine}
+use Rattle.tables.specs.Checks.{shape_check, document_check, Fine}
 use Rattle.tables.proofs.Soundness.{shape_facts, document_shape, mark-bit, mark-root, mark_above}
 use Rattle.selection.specs.Lists.{count, front}
 use Rattle.selection.proofs.Lists.{tab_ext, front-take, count_holds}

@@ -7,8 +7,7 @@ use native.Mathlib.Decide.{ℕ_discrete}
 use native.Mathlib.Omega.{arith}
 use Rattle.tables.specs.Words.{parent, Bits16}
 use Rattle.tables.specs.Documents.{Doc, doc, mark, present, Sound}
-use Rattle.tables.specs.Checks.{shape_check}
-use Rattle.tables.specs.declared.refusal.Checked.TheVariants.{Fine}
+use Rattle.tables.specs.Checks.{shape_check, Fine}
 use Rattle.tables.proofs.Soundness.{shape_facts, shape_nodes, node_top, node_named}
 use Rattle.selection.proofs.Presence.{present_used, present-mark, is_present}
 use Rattle.mending.specs.Mending.{mended_mark, mended_marks}

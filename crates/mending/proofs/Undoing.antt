@@ -9,8 +9,7 @@ use native.Mathlib.Omega.{arith}
 use lib.ListN.{length, get_or, drop, set, take-append-drop}
 use lib.Seq.{set-get_or}
 use Rattle.tables.specs.Documents.{Doc, mark}
-use Rattle.tables.specs.Checks.{shape_check}
-use Rattle.tables.specs.declared.refusal.Checked.TheVariants.{Fine}
+use Rattle.tables.specs.Checks.{shape_check, Fine}
 use Rattle.tables.proofs.Soundness.{shape_facts}
 use Rattle.selection.specs.Lists.{tab, front, count}
 use Rattle.selection.proofs.Lists.{front-take}

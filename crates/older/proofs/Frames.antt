@@ -7,14 +7,12 @@ use native.Mathlib.Omega.{arith}
 use lib.Dec.{eqb, ltb, leb}
 use borrow.Author.Tests.{leb-true}
 use Rattle.tables.specs.Limits.{frame_limit}
-use Rattle.tables.specs.Checks.{◌then◌, test, refuse}
-use Rattle.tables.specs.declared.refusal.Checked.{Checked}
-use Rattle.tables.specs.declared.refusal.Checked.TheVariants.{Fine}
+use Rattle.tables.specs.Checks.{◌then◌, test, refuse, Fine}
 use Rattle.tables.proofs.Accepted.{held, then_first, then_second}
 use Rattle.batch_parts.specs.Parts.{count}
 use Rattle.batch_frame.specs.Frames.{kind, kind_right, tree_at, end_of}
 use Rattle.older.specs.Installations.{Installation, Within, steps_in, nodes_in, rest_in, frame_in}
-use Rattle.older.specs.Answers.{toFrame}
+use Rattle.older.specs.Answers.{to_frame}
 use Rattle.older.proofs.Limits.{test_more, steps-part_other, nodes-part_other}
 
 module _ (i j : Installation) (b : List ℕ) where
@@ -36,8 +34,8 @@ module _ (i j : Installation) (b : List ℕ) where
       rw (then_first (test (not (eqb k 3) || ltb 1 (count b (at + 1))) (refuse 6 6 (at + 1))) _ e)
       (tree_other (eqb k 2) (tree_at at (count b (at + 1))) (then_second (test (not (eqb k 3) || ltb 1 (count b (at + 1))) (refuse 6 6 (at + 1))) _ e))
 
-  pub frame_other : (n at : ℕ) → frame_in i b n at ≡ Fine → frame_in j b n at ≡ toFrame j b at
-  unfolding frame_in toFrame
+  pub frame_other : (n at : ℕ) → frame_in i b n at ≡ Fine → frame_in j b n at ≡ to_frame j b at
+  unfolding frame_in to_frame
   frame_other n at e =
       let kinds : (test (kind_right (kind b at)) (refuse 8 6 at) then steps_in i b (at + 1) then rest_in i b (kind b at) at) ≡ Fine = then_second (test (ltb n frame_limit) (refuse 10 6 at)) _ e in
       let parts : (steps_in i b (at + 1) then rest_in i b (kind b at) at) ≡ Fine = then_second (test (kind_right (kind b at)) (refuse 8 6 at)) _ kinds in
@@ -54,8 +52,8 @@ module _ (o i : Installation) (w : Within o i) (b : List ℕ) where
   tree_kept true at e = rw (test_more (count b at) o.most_nodes i.most_nodes _ w.nodes e)
   tree_kept false at e = refl
 
-  pub to_frame_kept : (at : ℕ) → toFrame o b at ≡ Fine → toFrame i b at ≡ Fine
-  unfolding toFrame
+  pub to_frame_kept : (at : ℕ) → to_frame o b at ≡ Fine → to_frame i b at ≡ Fine
+  unfolding to_frame
   to_frame_kept at e =
       rw (test_more (count b (at + 1)) o.most_steps i.most_steps _ w.steps (then_first (test (leb (count b (at + 1)) o.most_steps) (refuse 2 6 (at + 1))) _ e))
       (tree_kept (eqb (kind b at) 2) (tree_at at (count b (at + 1))) (then_second (test (leb (count b (at + 1)) o.most_steps) (refuse 2 6 (at + 1))) _ e))
@@ -64,8 +62,8 @@ module _ (o i : Installation) (w : Within o i) (b : List ℕ) where
   frame_kept n at e = frame_other o i b n at e ∙ to_frame_kept at (sym (frame_other o o b n at e) ∙ e)
 
 -- a frame that is accepted has no more words than the longest
-pub frame_most : (i : Installation) (b : List ℕ) (at : ℕ) → toFrame i b at ≡ Fine → end_of b at ≤ at + (3 + 2 * i.most_steps + 2 * i.most_nodes)
-unfolding toFrame end_of
+pub frame_most : (i : Installation) (b : List ℕ) (at : ℕ) → to_frame i b at ≡ Fine → end_of b at ≤ at + (3 + 2 * i.most_steps + 2 * i.most_nodes)
+unfolding to_frame end_of
 frame_most i b at e =
     go (eqb (kind b at) 2)
     (leb-true (count b (at + 1)) i.most_steps (held (leb (count b (at + 1)) i.most_steps) _ (then_first (test (leb (count b (at + 1)) i.most_steps) (refuse 2 6 (at + 1))) _ e)))

@@ -1,4 +1,6 @@
 -- What an installation accepts, one whose limits are no less accepts with the same frames and answers.
+use Rattle.std.specs.Prelude.{Result}
+use Rattle.tables.specs.declared.refusal.Refusal.{Refusal}
 use Prim.Native.Nat.{ℕ, zero, suc, ◌+◌}
 use mathlib.Core.Path.{◌≡◌, refl, sym, ◌∙◌}
 use mathlib.Core.Bool.{Bool, true, false, cond}
@@ -7,16 +9,13 @@ use lib.Dec.{ltb, leb}
 use lib.ListN.{length}
 use Rattle.tables.specs.Limits.{batch_limit}
 use Rattle.tables.specs.Words.{steps, nodes}
-use Rattle.tables.specs.Checks.{◌then◌, test, refuse, pattern_check, tree_check, output_check}
-use Rattle.tables.specs.declared.refusal.Checked.{Checked}
-use Rattle.tables.specs.declared.refusal.Checked.TheVariants.{Fine}
+use Rattle.tables.specs.Checks.{◌then◌, test, refuse, pattern_check, tree_check, output_check, Fine}
 use Rattle.tables.proofs.Accepted.{then_first, then_second}
 use Rattle.conflict.specs.Conflict.{Update, delete, insert}
 use Rattle.check_verdict.specs.Order.{room_check}
 use Rattle.batch_frame.specs.Frames.{end_of}
 use Rattle.batch_check.specs.Batches.{batch_of}
 use Rattle.batch_plan.specs.Batch.{PlanBy}
-use Rattle.outcomes.specs.declared.plans.Planned.{Planned}
 use Rattle.older.specs.Installations.{Installation, Within, frame_in, frames_in, batch_in, plan_in, pair_in, verdict_in}
 use Rattle.older.proofs.Limits.{test_more, pattern_other, tree_other}
 use Rattle.older.proofs.Frames.{frame_kept}
@@ -45,7 +44,7 @@ module _ (o i : Installation) (w : Within o i) where
     unfolding plan_in
     plan_same words e = rw (e, batch_kept e)
 
-    pub plan_kept : (Related : List ℕ → Update → Type 0) (before after : List ℕ) (answer : Planned) → batch_in o b ≡ Fine →
+    pub plan_kept : (Related : List ℕ → Update → Type 0) (before after : List ℕ) (answer : Result ℕ Refusal) → batch_in o b ≡ Fine →
         PlanBy (plan_in o b (length before)) Related b before after answer → PlanBy (plan_in i b (length before)) Related b before after answer
     plan_kept Related before after answer e p = rw (plan_same (length before) e) at p
 

@@ -1,4 +1,5 @@
 -- A table, or a counted part of a frame, that is accepted under one limit: under another it is refused by 2 alone, where it has too many steps or nodes.
+use Rattle.std.specs.Prelude.{Ok, Err}
 use Prim.Native.Nat.{ℕ, ◌+◌, ◌*◌, ◌/◌, ◌%◌, ◌≤◌}
 use mathlib.Core.Path.{◌≡◌, refl, sym, ◌∙◌}
 use mathlib.Core.Bool.{Bool, true, false, ◌&&◌}
@@ -8,21 +9,19 @@ use lib.Dec.{eqb, ltb, leb}
 use lib.ListN.{length}
 use borrow.Author.Tests.{le-leb, leb-true}
 use Rattle.tables.specs.Words.{steps, nodes}
-use Rattle.tables.specs.Checks.{◌then◌, test, refuse, each, size_check, axis_check, pattern_check, node_check, tree_check}
+use Rattle.tables.specs.Checks.{◌then◌, test, refuse, each, size_check, axis_check, pattern_check, node_check, tree_check, Checked, Fine}
 use Rattle.tables.specs.declared.refusal.Refusal.{Refusal}
-use Rattle.tables.specs.declared.refusal.Checked.{Checked}
-use Rattle.tables.specs.declared.refusal.Checked.TheVariants.{Fine, Refused}
 use Rattle.tables.proofs.Accepted.{never, held, then_first, then_second}
 use Rattle.batch_parts.specs.Parts.{part, count, in_steps, in_nodes, count_check}
 use Rattle.batch_parts.proofs.Branches.{count_room}
 use Rattle.batch_check.proofs.Accepted.{part_length}
 
 pub then_fine : (c : Checked) → (c then Fine) ≡ c
-then_fine Fine = refl
-then_fine (Refused r) = refl
+then_fine (Ok tt) = refl
+then_fine (Err r) = refl
 
 -- a test that passes under a limit passes under a greater one
-pub test_more : (n limit other : ℕ) (r : Refusal) → limit ≤ other → test (leb n limit) (Refused r) ≡ Fine → leb n other ≡ true
+pub test_more : (n limit other : ℕ) (r : Refusal) → limit ≤ other → test (leb n limit) (Err r) ≡ Fine → leb n other ≡ true
 test_more n limit other r h e = le-leb n other (omega (arith, leb-true n limit (held (leb n limit) r e)))
 
 size_other : (n limit other table : ℕ) → size_check n limit table ≡ Fine → size_check n other table ≡ test (leb (n / 2) other) (refuse 2 table 0)
@@ -91,12 +90,12 @@ module _ (inPart : ℕ → Checked → Checked) (check : List ℕ → ℕ → �
       go false q = refl
 
 in_steps-back : (from : ℕ) (c : Checked) → in_steps from c ≡ Fine → c ≡ Fine
-in_steps-back from Fine e = refl
-in_steps-back from (Refused r) e = never refl e
+in_steps-back from (Ok tt) e = refl
+in_steps-back from (Err r) e = never refl e
 
 in_nodes-back : (from : ℕ) (c : Checked) → in_nodes from c ≡ Fine → c ≡ Fine
-in_nodes-back from Fine e = refl
-in_nodes-back from (Refused r) e = never refl e
+in_nodes-back from (Ok tt) e = refl
+in_nodes-back from (Err r) e = never refl e
 
 pub steps-part_other : (b : List ℕ) (at limit other : ℕ) → (count_check b at limit then in_steps (at + 1) (pattern_check (part b (at + 1) (2 * count b at)) limit 6)) ≡ Fine
     → (count_check b at other then in_steps (at + 1) (pattern_check (part b (at + 1) (2 * count b at)) other 6)) ≡ test (leb (count b at) other) (refuse 2 6 at)

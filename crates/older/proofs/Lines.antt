@@ -8,9 +8,7 @@ use lib.Dec.{eqb, ltb, leb}
 use lib.ListN.{length, length-append}
 use borrow.Author.Tests.{eqb-true}
 use Rattle.tables.specs.Limits.{batch_limit}
-use Rattle.tables.specs.Checks.{◌then◌, test, refuse, each}
-use Rattle.tables.specs.declared.refusal.Checked.{Checked}
-use Rattle.tables.specs.declared.refusal.Checked.TheVariants.{Fine}
+use Rattle.tables.specs.Checks.{◌then◌, test, refuse, each, Fine}
 use Rattle.tables.proofs.Accepted.{held, then_first, then_second}
 use Rattle.selection.proofs.Runs.{both}
 use Rattle.batch_frame.specs.Frames.{end_of}
@@ -18,7 +16,7 @@ use Rattle.text_digits.specs.Digits.{words_of}
 use Rattle.text_digits.proofs.Returning.{length-words_of}
 use Rattle.text_line_in.specs.Lines.{character_check}
 use Rattle.older.specs.Installations.{Installation, Within, longest, frame_in, line_in, take_in}
-use Rattle.older.specs.Answers.{toFrame, toLine}
+use Rattle.older.specs.Answers.{to_frame, to_line}
 use Rattle.older.proofs.Limits.{then_fine, test_more}
 use Rattle.older.proofs.Frames.{frame_other, to_frame_kept, frame_most}
 
@@ -45,21 +43,21 @@ module _ (i j : Installation) where
     frames : (frame_in i (b ++ words_of l) n (length b) then test (eqb (end_of (b ++ words_of l) (length b)) (length (b ++ words_of l))) (refuse 9 6 (end_of (b ++ words_of l) (length b)))) ≡ Fine
     frames = then_second (test (leb (length (b ++ words_of l)) batch_limit) (refuse 10 6 batch_limit)) _ behind
 
-    pub take_other : take_in j l n b ≡ toLine j l n b
-    unfolding take_in toLine
+    pub take_other : take_in j l n b ≡ to_line j l n b
+    unfolding take_in to_line
     take_other =
         rw (
           line_other l (n + 1) (then_first (line_in i l (n + 1)) _ e),
           then_first (test (leb (length (b ++ words_of l)) batch_limit) (refuse 10 6 batch_limit)) _ behind,
           frame_other i j (b ++ words_of l) n (length b) (then_first (frame_in i (b ++ words_of l) n (length b)) _ frames),
           then_second (frame_in i (b ++ words_of l) n (length b)) _ frames,
-          then_fine (toFrame j (b ++ words_of l) (length b)),
+          then_fine (to_frame j (b ++ words_of l) (length b)),
         )
 
 -- a line is taken by an installation whose limits are no less
 module _ (o i : Installation) (w : Within o i) (l : List ℕ) (n : ℕ) (b : List ℕ) where
-  to_line_kept : toLine o l n b ≡ Fine → toLine i l n b ≡ Fine
-  unfolding toLine
+  to_line_kept : to_line o l n b ≡ Fine → to_line i l n b ≡ Fine
+  unfolding to_line
   to_line_kept e =
       rw (test_more (length l) o.most_digits i.most_digits _ w.digits (then_first (test (leb (length l) o.most_digits) (refuse 13 6 (n + 1))) _ e))
       (to_frame_kept o i w (b ++ words_of l) (length b) (then_second (test (leb (length l) o.most_digits) (refuse 13 6 (n + 1))) _ e))
@@ -80,7 +78,7 @@ module _ (i : Installation) (l : List ℕ) (n : ℕ) (b : List ℕ) (e : take_in
   ends : end_of (b ++ words_of l) (length b) ≡ length (b ++ words_of l)
   ends = eqb-true (end_of (b ++ words_of l) (length b)) (length (b ++ words_of l)) (held _ _ (then_second (frame_in i (b ++ words_of l) n (length b)) _ (frames i i l n b e)))
 
-  within : toFrame i (b ++ words_of l) (length b) ≡ Fine
+  within : to_frame i (b ++ words_of l) (length b) ≡ Fine
   within =
       let frame : frame_in i (b ++ words_of l) n (length b) ≡ Fine = then_first (frame_in i (b ++ words_of l) n (length b)) _ (frames i i l n b e) in
       sym (frame_other i i (b ++ words_of l) n (length b) frame) ∙ frame

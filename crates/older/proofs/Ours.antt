@@ -3,8 +3,7 @@ use Prim.Native.Nat.{ℕ, zero, suc}
 use mathlib.Core.Path.{◌≡◌, refl}
 use mathlib.Core.List.{List}
 use native.Mathlib.Omega.{arith}
-use Rattle.tables.specs.Checks.{refuse, each, size_check, axis_right, axis_check, pattern_check}
-use Rattle.tables.specs.declared.refusal.Checked.TheVariants.{Fine}
+use Rattle.tables.specs.Checks.{refuse, each, size_check, axis_right, axis_check, pattern_check, Fine}
 use Rattle.selection.specs.Lists.{tab}
 use Rattle.conflict.specs.Conflict.{Update, delete, insert}
 use Rattle.check_verdict.specs.Order.{patterns_check, deep_delete_check, deep_insert_check, delete_verdict_check, insert_verdict_check, deep_check, verdict_check}
@@ -14,7 +13,7 @@ use Rattle.batch_check.specs.Batches.{check_from, batch_check, plan_check}
 use Rattle.text_line_in.specs.Lines.{line_check}
 use Rattle.text_printer.specs.Printer.{take_check}
 use Rattle.older.specs.Installations.{Within, ours, before_longer, longest, steps_in, nodes_in, rest_in, frame_in, line_in, take_in, frames_in, batch_in, plan_in, pair_in, verdict_in}
-use Rattle.older.specs.Answers.{longRead}
+use Rattle.older.specs.Answers.{read_of_65}
 
 pub within-ours : Within before_longer ours
 within-ours = record { steps = omega arith; nodes = omega arith; digits = omega arith }
@@ -58,6 +57,6 @@ verdict_ours r (delete p) words = refl
 verdict_ours r (insert p x) words = refl
 
 -- a frame that we accept and an older one refuses by 2, at the count of its steps
-pub long_read : (frame_in ours longRead 0 0 ≡ Fine) × (frame_in before_longer longRead 0 0 ≡ refuse 2 6 1)
+pub long_read : (frame_in ours read_of_65 0 0 ≡ Fine) × (frame_in before_longer read_of_65 0 0 ≡ refuse 2 6 1)
 unfolding frame_in steps_in rest_in count_check kind_right pattern_check size_check each axis_check axis_right tab
 long_read = (refl, refl)

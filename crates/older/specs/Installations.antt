@@ -3,9 +3,7 @@
 use Rattle.std.specs.Prelude.{ℕ, zero, suc, ◌+◌, ◌*◌, ◌%◌, ◌≤◌, ◌&&◌, ◌||◌, cond, not, List, ◌++◌, eqb, ltb, leb, length}
 use Rattle.tables.specs.Limits.{step_limit, tree_limit, digit_limit, frame_limit, batch_limit}
 use Rattle.tables.specs.Words.{steps}
-use Rattle.tables.specs.Checks.{◌then◌, test, refuse, each, pattern_check, tree_check, output_check}
-use Rattle.tables.specs.declared.refusal.Checked.{Checked}
-use Rattle.tables.specs.declared.refusal.Checked.TheVariants.{Fine}
+use Rattle.tables.specs.Checks.{◌then◌, test, refuse, each, pattern_check, tree_check, output_check, Checked, Fine}
 use Rattle.conflict.specs.Conflict.{Update, delete, insert}
 use Rattle.check_verdict.specs.Order.{room_check}
 use Rattle.batch_parts.specs.Parts.{part, count, in_steps, in_nodes, count_check}

@@ -1,9 +1,9 @@
 -- A document that meets no refusal meets none after an accepted update.
+use Rattle.tables.specs.Checks.{Fine}
 use Prim.Native.Nat.{ℕ, ◌<◌}
 use mathlib.Core.Path.{◌≡◌}
 use mathlib.Core.List.{List}
 use Rattle.tables.specs.Words.{steps, Bits16}
-use Rattle.tables.specs.declared.refusal.Checked.TheVariants.{Fine}
 use Rattle.tables.proofs.Soundness.{accepted_document}
 use Rattle.identities.specs.Documents.{Document, Identified, SoundDocument}
 use Rattle.identities.specs.Checks.{whole_check}

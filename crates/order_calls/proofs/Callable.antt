@@ -5,8 +5,7 @@ use mathlib.Core.List.{List}
 use mathlib.Core.Logic.{◌⊎◌, inl, inr}
 use Rattle.tables.specs.Limits.{step_limit, tree_limit}
 use Rattle.tables.specs.Words.{steps}
-use Rattle.tables.specs.Checks.{pattern_check, tree_check}
-use Rattle.tables.specs.declared.refusal.Checked.TheVariants.{Fine}
+use Rattle.tables.specs.Checks.{pattern_check, tree_check, Fine}
 use Rattle.tables.proofs.Elsewhere.{pattern_elsewhere, tree_elsewhere}
 use Rattle.conflict.specs.Conflict.{Update, delete, insert}
 use Rattle.order.specs.Model.{Fits}

@@ -1,6 +1,8 @@
 -- The call of an accepted frame on an accepted document does what the model says, and is refused for identities or room or not at all.
+use Rattle.std.specs.Prelude.{Result, Ok, Err}
+use Rattle.outcomes.specs.declared.updates.Inserted.{Inserted}
 use Prim.Native.Nat.{ℕ, ◌+◌, ◌<◌, ◌≤◌}
-use mathlib.Core.Path.{◌≡◌, refl, sym, ◌∙◌, subst}
+use mathlib.Core.Path.{◌≡◌, refl, sym, ◌∙◌, subst, ap}
 use mathlib.Core.Bool.{Bool, true, false, ◌&&◌, cond, false≢true}
 use mathlib.Core.List.{List}
 use mathlib.Core.Logic.{◌⊎◌, inl, inr, ◌↔◌}
@@ -11,10 +13,8 @@ use lib.ListN.{length, replicate, length-replicate}
 use Rattle.tables.specs.Limits.{used_limit}
 use Rattle.tables.specs.Words.{steps}
 use Rattle.tables.specs.Patterns.{Pattern}
-use Rattle.tables.specs.Checks.{◌then◌, test, refuse, output_check}
+use Rattle.tables.specs.Checks.{◌then◌, test, refuse, output_check, Checked, Fine}
 use Rattle.tables.specs.declared.refusal.Refusal.{Refusal}
-use Rattle.tables.specs.declared.refusal.Checked.{Checked}
-use Rattle.tables.specs.declared.refusal.Checked.TheVariants.{Fine, Refused}
 use Rattle.tables.proofs.Accepted.{never}
 use Rattle.tables.proofs.Soundness.{used_facts}
 use Rattle.selection.specs.Embeddings.{Selects}
@@ -29,8 +29,6 @@ use Rattle.doc_updates.specs.Updating.{delete_check, insert_check, delete_answer
 use Rattle.doc_updates.proofs.Accepted.{delete_tells}
 use Rattle.doc_updates.proofs.Deletes.{removed_tables, delete_doc}
 use Rattle.doc_updates.proofs.Inserts.{insert_doc}
-use Rattle.outcomes.specs.declared.updates.Deleted.{Deleted}
-use Rattle.outcomes.specs.declared.updates.Inserted.{Inserted}
 use Rattle.conflict.specs.Conflict.{Update, delete, insert}
 use Rattle.order.specs.Frames.{Frame, read, update}
 use Rattle.order.specs.Model.{act}
@@ -59,7 +57,7 @@ module _ (p : List ℕ) (d : Document) (accepted : AcceptedDocument d) where
   insert_check_lem x c = rw (accepted_whole accepted, c.0, c.1)
 
 -- a delete leaves the deleted document
-delete_leaves : {p marks : List ℕ} {d : Document} {answer : Deleted} → Delete p d d.tables.marks marks answer → delete_check p d ≡ Fine →
+delete_leaves : {p marks : List ℕ} {d : Document} {answer : Result ℕ Refusal} → Delete p d d.tables.marks marks answer → delete_check p d ≡ Fine →
     document d.tables.rows marks d.tables.used d.ids d.next ≡ deleted_in p d
 unfolding deleted_in
 delete_leaves {p} {marks} {d} {answer} h e =
@@ -67,7 +65,7 @@ delete_leaves {p} {marks} {d} {answer} h e =
     rw (delete_doc p d.tables (removed_tables (subst (Delete p d d.tables.marks marks) a h)))
 
 -- an insert leaves the document with the copies in it, or, where it is refused, as it was
-module _ {p x rows marks ids : List ℕ} {d : Document} {answer : Inserted} (h : Insert p x d d.tables.rows d.tables.marks d.ids rows marks ids answer) where
+module _ {p x rows marks ids : List ℕ} {d : Document} {answer : Result Inserted Refusal} (h : Insert p x d d.tables.rows d.tables.marks d.ids rows marks ids answer) where
   left : Document
   left = document rows marks (used_after answer d.tables.used) ids (next_after answer d.next)
 
@@ -79,22 +77,22 @@ module _ {p x rows marks ids : List ℕ} {d : Document} {answer : Inserted} (h :
   insert_made e =
       rw (told Fine e) (insert_doc p x d (subst (Insert p x d d.tables.rows d.tables.marks d.ids rows marks ids) (told Fine e) h))
 
-  insert_refused : {why : Refusal} → insert_check p x d ≡ Refused why → left ≡ d
+  insert_refused : {why : Refusal} → insert_check p x d ≡ Err why → left ≡ d
   unfolding left
   insert_refused {why} e =
       let r : rows ≡ d.tables.rows = rw e at h.rows in
       let m : marks ≡ d.tables.marks = rw e at h.marks in
       let i : ids ≡ d.ids = rw e at h.ids in
-      rw (r, m, i, told (Refused why) e)
+      rw (r, m, i, told (Err why) e)
 
   insert_leaves : (names room : Bool) → insert_check p x d ≡ last_checks names room → left ≡ cond (names && room) (inserted_in p x d) d
   insert_leaves true true e = insert_made e
   insert_leaves true false e = insert_refused e
   insert_leaves false room e = insert_refused e
 
-insert_tells : (c : Checked) (n used to-give : ℕ) {answer : Inserted} → answer ≡ insert_answer c n used to-give → refusal_of (inserting answer) ≡ c
-insert_tells Fine n used to-give e = rw e
-insert_tells (Refused why) n used to-give e = rw e
+insert_tells : (c : Checked) (n used to-give : ℕ) {answer : Result Inserted Refusal} → answer ≡ insert_answer c n used to-give → refusal_of (inserting answer) ≡ c
+insert_tells (Ok tt) n used to-give e = rw e
+insert_tells (Err why) n used to-give e = rw e
 
 -- the document after a call is that of the model
 pub call_leaves : {f : Frame (List ℕ) Update} {d e : Document} {answer : Reply} → AcceptedDocument d → Callable f → Call f d answer e → e ≡ act updated f d
@@ -104,7 +102,7 @@ call_leaves accepted c (deletes {p = p} {d = d} h) = delete_leaves h (delete_fin
 call_leaves accepted c (inserts {p = p} {x = x} {d = d} h) = insert_leaves h (nameable p x d) (fits_in p x d) (insert_check_lem p d accepted x c)
 
 -- an insert is refused for identities exactly where there are too few, for room exactly where there are enough and it does not fit, and else by nothing
-insert_refusal : {p x rows marks ids : List ℕ} {d : Document} {answer : Inserted} → AcceptedDocument d → Callable (update (insert p x)) →
+insert_refusal : {p x rows marks ids : List ℕ} {d : Document} {answer : Result Inserted Refusal} → AcceptedDocument d → Callable (update (insert p x)) →
     Insert p x d d.tables.rows d.tables.marks d.ids rows marks ids answer → refusal_of (inserting answer) ≡ last_checks (nameable p x d) (fits_in p x d)
 insert_refusal {p} {x} {d = d} accepted c h =
     insert_tells _ (copies p d.tables) (d.tables.used + written p x d.tables) (d.next + written p x d.tables) h.answered ∙ insert_check_lem p d accepted x c
@@ -121,11 +119,13 @@ call_works accepted c (deletes {p = p} {d = d} h) = delete_tells _ (removed p d.
 call_works accepted c (inserts {p = p} {x = x} {d = d} h) = by_last (nameable p x d) (fits_in p x d) (insert_refusal accepted c h)
 
 -- 16 and 11 are two refusals
-number_is : {n table place : ℕ} {r : Refusal} → refuse n table place ≡ Refused r → n ≡ r.number
-number_is e = cc
+table_is : Checked → ℕ
+table_is (Ok tt) = 0
+table_is (Err r) = r.table
 
 apart : {A : Type 0} {c : Checked} → c ≡ refuse 16 5 0 → c ≡ refuse 11 4 0 → A
-apart e f = let z : ◌≡◌ {A = ℕ} 16 11 = number_is (sym e ∙ f) in absurd (omega arith)
+unfolding table_is
+apart e f = let z : ◌≡◌ {A = ℕ} 5 4 = ap table_is (sym e ∙ f) in absurd (omega arith)
 
 pub no_identities_exactly : {p x : List ℕ} {d e : Document} {answer : Reply} → AcceptedDocument d → Callable (update (insert p x)) →
     Call (update (insert p x)) d answer e → NoIdentities answer ↔ (nameable p x d ≡ false)

@@ -1,12 +1,12 @@
 -- Demand 3 over the calls: two runs of an accepted batch from an accepted document, one in an order that keeps to the slots and one in the batch's own,
 -- give the same.
+use Rattle.tables.specs.Checks.{Checked}
 use Prim.Native.Nat.{ℕ}
 use mathlib.Core.Path.{◌≡◌, sym, ◌∙◌, subst}
 use mathlib.Core.Bool.{Bool}
 use mathlib.Core.List.{List}
 use mathlib.Core.Logic.Iff
 use mathlib.Core.Logic.{◌↔◌}
-use Rattle.tables.specs.declared.refusal.Checked.{Checked}
 use Rattle.identities.specs.Documents.{Document}
 use Rattle.conflict.specs.Conflict.{Update}
 use Rattle.order.specs.Model.{Fits, Order, met, Same}

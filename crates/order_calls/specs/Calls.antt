@@ -1,33 +1,30 @@
 -- A batch run call by call: each frame is one call of Read, Delete or Insert, by its promise, on the document that the call before it left.
-use Rattle.std.specs.Prelude.{ℕ, ◌<◌, ◌≤◌, ◌≡◌, List, [], ◌∷◌, ◌⊎◌, ◌↔◌, length, get_or}
+use Rattle.outcomes.specs.declared.updates.Inserted.{Inserted}
+use Rattle.tables.specs.declared.refusal.Refusal.{Refusal}
+use Rattle.std.specs.Prelude.{ℕ, ◌<◌, ◌≤◌, ◌≡◌, List, [], ◌∷◌, ◌⊎◌, ◌↔◌, length, get_or, Result, Ok, Err}
 use Rattle.tables.specs.Limits.{used_limit}
-use Rattle.tables.specs.Checks.{refuse}
-use Rattle.tables.specs.declared.refusal.Checked.{Checked}
-use Rattle.tables.specs.declared.refusal.Checked.TheVariants.{Fine, Refused}
+use Rattle.tables.specs.Checks.{refuse, Checked, Fine}
 use Rattle.identities.specs.Documents.{Document, document, identity}
 use Rattle.doc_read.specs.Reading.{Read}
 use Rattle.doc_updates.specs.Updating.{delete_refusal, Delete, Insert}
-use Rattle.outcomes.specs.declared.updates.Deleted.{Deleted}
-use Rattle.outcomes.specs.declared.updates.Inserted.{Inserted}
-use Rattle.outcomes.specs.declared.updates.Inserted.TheVariants as inserted
 use Rattle.conflict.specs.Conflict.{Update, delete, insert}
 use Rattle.order.specs.Frames.{Frame, read, update, At}
 
 -- what a call answered; of a read, also the row that it left
 pub data Reply : Type 0 where
   reading : Checked → List ℕ → Reply
-  deleting : Deleted → Reply
-  inserting : Inserted → Reply
+  deleting : Result ℕ Refusal → Reply
+  inserting : Result Inserted Refusal → Reply
 
 -- the used count after an insert: the one that it tells, or, where it is refused, the one before
-abbrev pub used_after : Inserted → ℕ → ℕ
-used_after (inserted.Copied copies used to-give) before = used
-used_after (inserted.Refused why) before = before
+abbrev pub used_after : Result Inserted Refusal → ℕ → ℕ
+used_after (Ok made) before = made.used
+used_after (Err why) before = before
 
 -- and the next identity likewise
-abbrev pub next_after : Inserted → ℕ → ℕ
-next_after (inserted.Copied copies used to-give) before = to-give
-next_after (inserted.Refused why) before = before
+abbrev pub next_after : Result Inserted Refusal → ℕ → ℕ
+next_after (Ok made) before = made.next
+next_after (Err why) before = before
 
 -- a frame's call on document d, what it answers, and the document that it leaves
 pub data Call : Frame (List ℕ) Update → Document → Reply → Document → Type 0 where
@@ -35,10 +32,10 @@ pub data Call : Frame (List ℕ) Update → Document → Reply → Document → 
   reads : {p before row : List ℕ} {d : Document} {answer : Checked} → used_limit ≤ length before
       → Read p d before row answer → Call (read p) d (reading answer row) d
   -- a delete is lent the marks, and nothing else that could change
-  deletes : {p marks : List ℕ} {d : Document} {answer : Deleted}
+  deletes : {p marks : List ℕ} {d : Document} {answer : Result ℕ Refusal}
       → Delete p d d.tables.marks marks answer
       → Call (update (delete p)) d (deleting answer) (document d.tables.rows marks d.tables.used d.ids d.next)
-  inserts : {p x rows marks ids : List ℕ} {d : Document} {answer : Inserted}
+  inserts : {p x rows marks ids : List ℕ} {d : Document} {answer : Result Inserted Refusal}
       → Insert p x d d.tables.rows d.tables.marks d.ids rows marks ids answer
       → Call (update (insert p x)) d (inserting answer) (document rows marks (used_after answer d.tables.used) ids (next_after answer d.next))
 
@@ -68,8 +65,8 @@ pub record Runs (b : List (Frame (List ℕ) Update)) (o : List ℕ) (d : Documen
 abbrev pub refusal_of : Reply → Checked
 refusal_of (reading answer row) = answer
 refusal_of (deleting answer) = delete_refusal answer
-refusal_of (inserting (inserted.Copied copies used to-give)) = Fine
-refusal_of (inserting (inserted.Refused why)) = Refused why
+refusal_of (inserting (Ok made)) = Fine
+refusal_of (inserting (Err why)) = Err why
 
 -- refused for room
 abbrev pub NoRoom : Reply → Type 0

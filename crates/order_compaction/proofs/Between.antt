@@ -1,11 +1,11 @@
 -- A batch run on two documents that differ in the numbers of nodes alone; so a compaction between two batches changes no later answer but these.
+use Rattle.tables.specs.Checks.{Fine}
 use Prim.Native.Nat.{ℕ, suc}
 use mathlib.Core.Path.{◌≡◌, sym}
 use mathlib.Core.List.{List, ◌∷◌}
 use mathlib.Core.Logic.{◌⊎◌, inl, inr}
 use native.Mathlib.Omega.{arith}
 use Rattle.tables.specs.Words.{Bits16}
-use Rattle.tables.specs.declared.refusal.Checked.TheVariants.{Fine}
 use Rattle.conflict.specs.Conflict.{Update}
 use Rattle.identities.specs.Documents.{Document}
 use Rattle.identities.specs.Checks.{whole_check}

@@ -1,13 +1,11 @@
 -- When two runs of one batch differ in the numbers of nodes alone.
-use Rattle.std.specs.Prelude.{ℕ, ◌+◌, ◌≤◌, ◌≡◌, List, [], ◌∷◌, ◌↔◌}
+use Rattle.outcomes.specs.declared.updates.Inserted.{Inserted}
+use Rattle.tables.specs.Checks.{Checked}
+use Rattle.std.specs.Prelude.{ℕ, ◌+◌, ◌≤◌, ◌≡◌, List, [], ◌∷◌, ◌↔◌, Result, Ok, Err}
 use Rattle.tables.specs.declared.refusal.Refusal.{Refusal}
-use Rattle.tables.specs.declared.refusal.Checked.{Checked}
 use Rattle.identities.specs.Documents.{Document}
 use Rattle.identities.specs.Updates.{room_of}
 use Rattle.compaction.specs.Alike.{Alike}
-use Rattle.outcomes.specs.declared.updates.Deleted.{Deleted}
-use Rattle.outcomes.specs.declared.updates.Inserted.{Inserted}
-use Rattle.outcomes.specs.declared.updates.Inserted.TheVariants as inserted
 use Rattle.order.specs.Frames.{At}
 use Rattle.order_calls.specs.Calls.{Reply, reading, deleting, inserting, Called, called, NoRoom, SaysIdentity}
 
@@ -18,15 +16,15 @@ pub record Gap (more : ℕ) (d e : Document) : Type 0 where
   pub used : e.tables.used + more ≡ d.tables.used
 
 -- inserts that answer the same, but for the used count, which keeps its distance
-pub data SameInserted (more : ℕ) : Inserted → Inserted → Type 0 where
-  copied : {n used less next : ℕ} → less + more ≡ used → SameInserted more (inserted.Copied n used next) (inserted.Copied n less next)
-  refused : {why : Refusal} → SameInserted more (inserted.Refused why) (inserted.Refused why)
+pub data SameInserted (more : ℕ) : Result Inserted Refusal → Result Inserted Refusal → Type 0 where
+  copied : {n used less next : ℕ} → less + more ≡ used → SameInserted more (Ok (record { copies = n; used = used; next = next })) (Ok (record { copies = n; used = less; next = next }))
+  refused : {why : Refusal} → SameInserted more (Err why) (Err why)
 
 -- the answers of a frame's call on d and on e: the same, where a read's row is taken by identities
 pub data SameButNumbers (more : ℕ) (d e : Document) : Reply → Reply → Type 0 where
   same_reading : {x y : Checked} {row line : List ℕ} → x ≡ y → ((i : ℕ) → SaysIdentity row d i ↔ SaysIdentity line e i) → SameButNumbers more d e (reading x row) (reading y line)
-  same_deleting : {x y : Deleted} → x ≡ y → SameButNumbers more d e (deleting x) (deleting y)
-  same_inserting : {x y : Inserted} → SameInserted more x y → SameButNumbers more d e (inserting x) (inserting y)
+  same_deleting : {x y : Result ℕ Refusal} → x ≡ y → SameButNumbers more d e (deleting x) (deleting y)
+  same_inserting : {x y : Result Inserted Refusal} → SameInserted more x y → SameButNumbers more d e (inserting x) (inserting y)
 
 -- the calls of two runs: at each place the same frame, on documents so far apart, with answers that are the same but for numbers
 pub data SameCalls (more : ℕ) : List Called → List Called → Type 0 where

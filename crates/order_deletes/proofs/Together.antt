@@ -1,4 +1,5 @@
 -- A delete and then others is all of them together, and together they have no order.
+use Rattle.std.specs.Prelude.{Ok, Err}
 use Prim.Native.Nat.{ℕ, suc, ◌<◌, ◌≤◌}
 use mathlib.Core.Path.{◌≡◌, refl, sym, ◌∙◌, ap}
 use mathlib.Core.Bool.{Bool, true, false, ◌&&◌, ◌||◌, not, cond, and-false, or-true, or_assoc, false≢true, Bool-set}
@@ -7,10 +8,8 @@ use mathlib.Core.Logic.{◌⊎◌, inl, inr, ∥∥₁_elim}
 use lib.ListN.{length, drop, take-append-drop}
 use lib.Seq.{drop_at}
 use Rattle.tables.specs.Documents.{Doc, doc, mark, present}
-use Rattle.tables.specs.Checks.{where_fine}
+use Rattle.tables.specs.Checks.{where_fine, Checked, Fine}
 use Rattle.tables.specs.declared.refusal.Refusal.{Refusal}
-use Rattle.tables.specs.declared.refusal.Checked.{Checked}
-use Rattle.tables.specs.declared.refusal.Checked.TheVariants.{Fine, Refused}
 use Rattle.tables.proofs.Soundness.{either_of}
 use Rattle.selection.specs.Lists.{tab, front}
 use Rattle.selection.specs.Ways.{up}
@@ -37,7 +36,7 @@ together_none d long =
     ∙ take-append-drop d.used d.marks
 
 -- a refused one counts for nothing
-pub together_skip : (p : List ℕ) (ps : List (List ℕ)) (d : Doc) {r : Refusal} → own_check p ≡ Refused r → together (p ∷ ps) d ≡ together ps d
+pub together_skip : (p : List ℕ) (ps : List (List ℕ)) (d : Doc) {r : Refusal} → own_check p ≡ Err r → together (p ∷ ps) d ≡ together ps d
 unfolding together any_hits
 together_skip p ps d e = rw e
 
@@ -100,8 +99,8 @@ any_hit [] w e = absurd (false≢true e)
 any_hit (p ∷ ps) w e = first (own_check p) refl (either_of (where_fine (own_check p) (hits p w) false) (any_hits ps w) e) (any_hit ps w)
   where
     first : (c : Checked) → own_check p ≡ c → (where_fine c (hits p w) false ≡ true) ⊎ (any_hits ps w ≡ true) → (any_hits ps w ≡ true → HitBy ps w) → HitBy (p ∷ ps) w
-    first Fine fine (inl q) more = record { place = 0; pattern = p; at = here; fine = fine; hit = q }
-    first (Refused why) fine (inl q) more = absurd (false≢true q)
+    first (Ok tt) fine (inl q) more = record { place = 0; pattern = p; at = here; fine = fine; hit = q }
+    first (Err why) fine (inl q) more = absurd (false≢true q)
     first c fine (inr q) more =
         let rest = more q in
         record { place = suc rest.place; pattern = rest.pattern; at = there rest.at; fine = rest.fine; hit = rest.hit }
@@ -124,9 +123,9 @@ together_again {ps} {k} {p} at d = marked_ext _ _ d (λ v l. ap (λ (b : Bool). 
   where
     adds : (c : Checked) (hit any : Bool) → (c ≡ Fine → hit ≡ true → any ≡ true) → (any || (where_fine c hit false || false)) ≡ any
     adds c hit true f = refl
-    adds Fine true false f = absurd (false≢true (f refl refl))
-    adds Fine false false f = refl
-    adds (Refused why) hit false f = refl
+    adds (Ok tt) true false f = absurd (false≢true (f refl refl))
+    adds (Ok tt) false false f = refl
+    adds (Err why) hit false f = refl
 
     same : (w : List ℕ) → any_hits (ps ++ (p ∷ [])) w ≡ any_hits ps w
     same w = hits_both ps (p ∷ []) w ∙ adds (own_check p) (hits p w) (any_hits ps w) (hit_any w at)

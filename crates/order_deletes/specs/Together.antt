@@ -3,8 +3,7 @@ use Rattle.std.specs.Prelude.{ℕ, Bool, false, ◌&&◌, ◌||◌, cond, List, 
 use Rattle.tables.specs.Limits.{step_limit}
 use Rattle.tables.specs.Words.{steps}
 use Rattle.tables.specs.Documents.{Doc, mark, present}
-use Rattle.tables.specs.Checks.{where_fine, ◌then◌, test, refuse, pattern_check}
-use Rattle.tables.specs.declared.refusal.Checked.{Checked}
+use Rattle.tables.specs.Checks.{where_fine, ◌then◌, test, refuse, pattern_check, Checked}
 use Rattle.selection.specs.Lists.{tab}
 use Rattle.selection.specs.Ways.{up}
 use Rattle.selection.specs.Operations.{hits}

@@ -1,8 +1,6 @@
-// What each operation answers: a refusal, or what it found or did.
+// What operations find or do, where it is more than a number.
 #![tactic(auto)]
 
 pub mod frames;
-pub mod plans;
-pub mod texts;
+pub mod numbers;
 pub mod updates;
-pub mod verdicts;

@@ -43,10 +43,8 @@ pub fn staying(p: &[u16], from: usize) -> u64
 {
     let m = held(p.len() / 2, from);
     let mut s: u64 = 0;
-    let mut i = 0;
-    while i < m {
+    for i in 0..m {
         s = put(s, i, stays(p, false, from + i));
-        i += 1;
     }
     s
 }
@@ -57,10 +55,8 @@ pub fn wildcards(p: &[u16], from: usize) -> u64
 {
     let m = held(p.len() / 2, from);
     let mut s: u64 = 0;
-    let mut i = 0;
-    while i < m {
+    for i in 0..m {
         s = put(s, i, second_word(p, from + i) == 0);
-        i += 1;
     }
     s
 }
@@ -110,10 +106,8 @@ pub fn noted(p: &[u16], from: usize, high: bool, table: &mut [u64])
     ensures { Noted high p.now from table.old table.new }
 {
     let m = held(p.len() / 2, from);
-    let mut i = 0;
-    while i < m {
+    for i in 0..m {
         note_step(table, high, second_word(p, from + i), i);
-        i += 1;
     }
 }
 

@@ -1,11 +1,10 @@
 // The plan printer: lines from standard input, their plan or the first refusal to standard output.
 #![tactic(auto)]
 
-ghost use Rattle.std.specs.Prelude.{◌≤◌, ◌≡◌, length};
+ghost use Rattle.std.specs.Prelude.{◌≤◌, ◌≡◌, length, IfOk};
 ghost use Rattle.text_printer.specs.Enough.{printed_most, input_most};
-ghost use Rattle.plan.specs.Plan.{TextAt, Within};
+ghost use Rattle.plan.specs.Plan.{TextAt};
 
-use outcomes::texts::Printed;
 use std::io;
 use std::io::{Read, Stdin, Stdout};
 use tables::limits::{BATCH_LIMIT, DIGIT_LIMIT, FRAME_LIMIT};
@@ -38,8 +37,8 @@ fn text(input: &[u8], out: &mut [u8]) -> usize
     ensures { TextAt input.now out.new result }
 {
     match print(input, out) {
-        Printed::Refused(_) => 0,
-        Printed::Bytes(n) => n,
+        Err(_) => 0,
+        Ok(n) => n,
     }
 }
 
@@ -50,38 +49,29 @@ fn print_all(stdout: Stdout, input: &[u8]) -> io::Result<()> {
     stdout.write_all(&out[0..n])
 }
 
-// How reading the input ends: a read failed, or so many bytes came.
-#[derive(Drop)]
-enum Input {
-    Failed,
-    Bytes(usize),
-}
-
-// Reads until the input ends or there is no more room.
-fn read_input(stdin: Stdin, input: &mut [u8]) -> Input
-    ensures { Within input.new result }
+// Reads until the input ends or there is no more room, and answers how many bytes came.
+fn read_input(stdin: Stdin, input: &mut [u8]) -> io::Result<usize>
+    ensures { IfOk result (λ n. n ≤ length input.new) }
 {
     let mut reader = stdin;
     let mut n = 0;
     while n < input.len() {
-        let Ok(more) = reader.read(&mut input[n..]) else {
-            return Input::Failed;
-        };
+        let more = reader.read(&mut input[n..])?;
         if more == 0 {
-            return Input::Bytes(n);
+            return Ok(n);
         }
         n += more;
     }
-    Input::Bytes(n)
+    Ok(n)
 }
 
 // Where a read fails, nothing is printed. Where a write fails, the program ends with its error.
 fn main(rt: HostRuntime) -> io::Result<()> {
     let mut input = input_room();
     match read_input(rt.stdin(), &mut input) {
-        Input::Failed => rt
+        Err(_) => rt
             .stderr()
             .write_all(b"plan: the input could not be read\n"),
-        Input::Bytes(n) => print_all(rt.stdout(), &input[0..n]),
+        Ok(n) => print_all(rt.stdout(), &input[0..n]),
     }
 }

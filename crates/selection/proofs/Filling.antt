@@ -1,10 +1,10 @@
 -- A list that is written from the front, its rest as it was; and a row, one byte a turn: f below v, and as it was from v on.
-use Prim.Native.Nat.{ℕ, suc, ◌+◌, ◌<◌, ◌≤◌}
+use Prim.Native.Nat.{ℕ, zero, suc, ◌+◌, ◌<◌, ◌≤◌}
 use mathlib.Core.Path.{◌≡◌, refl, sym, ◌∙◌, ap}
 use mathlib.Core.List.{List, [], ◌∷◌, ◌++◌, append_assoc}
 use native.Mathlib.Numerals.{add-one}
 use native.Mathlib.Omega.{arith}
-use lib.ListN.{length, drop, get_or, set, length-append}
+use lib.ListN.{length, take, drop, replicate, get_or, set, length-append, length-take}
 use lib.Seq.{drop-cons, set_at, append_snoc, drop_at}
 use Rattle.selection.specs.Lists.{tab}
 use Rattle.selection.proofs.Lists.{length-tab, get_or-tab-before, get_or-behind, length-behind}
@@ -77,3 +77,20 @@ module _ (f : ℕ → ℕ) (old : List ℕ) where
 
     pub row_again : row ≡ tab f n ++ drop n row
     row_again = e ∙ ap (λ (rest : List ℕ). tab f n ++ rest) (sym row_rest)
+
+-- a row of one number, by the library's word for it
+same_behind : (a n : ℕ) → a ∷ tab (λ _. a) n ≡ tab (λ _. a) n ++ (a ∷ [])
+unfolding tab
+same_behind a zero = refl
+same_behind a (suc n) = ap (λ xs. xs ++ (a ∷ [])) (same_behind a n)
+
+tab_replicate : (a n : ℕ) → replicate n a ≡ tab (λ _. a) n
+unfolding tab
+tab_replicate a zero = refl
+tab_replicate a (suc n) = ap (λ xs. a ∷ xs) (tab_replicate a n) ∙ same_behind a n
+
+-- the front of a buffer that is filled with it
+pub front_filled : (a n : ℕ) (xs : List ℕ) {front : List ℕ} → n ≤ length xs → front ≡ replicate (length (take n xs)) a → front ++ drop n xs ≡ tab (λ _. a) n ++ drop n xs
+front_filled a n xs h e =
+    let long : length (take n xs) ≡ n = simp length-take (omega arith) in
+    rw (e, long, tab_replicate a n)

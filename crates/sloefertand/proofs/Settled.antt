@@ -1,4 +1,6 @@
 -- Two answers with their buffers that meet a promise are the same.
+use Rattle.std.specs.Prelude.{Option, Some, None, Result, Ok, Err}
+use Rattle.tables.specs.declared.refusal.Refusal.{Refusal}
 use Prim.Native.Nat.{ℕ, ◌*◌}
 use mathlib.Core.Path.{◌≡◌, refl, sym, ap, subst, ◌∙◌}
 use mathlib.Core.List.{List}
@@ -15,8 +17,6 @@ use Rattle.doc_compact.proofs.Laws.{compact_one}
 use Rattle.doc_mend.specs.Promise.{Mend}
 use Rattle.doc_mend.proofs.Laws.{mend_one}
 use Rattle.conflict.specs.Conflict.{Update}
-use Rattle.outcomes.specs.declared.verdicts.Verdict.{Verdict}
-use Rattle.outcomes.specs.declared.verdicts.Verdict.TheVariants as verdict
 use Rattle.verdict.specs.Promise.{NodeVerdict, witness_nodes}
 use Rattle.verdict.proofs.Promise.{verdict_one}
 use Rattle.verdict_deep.specs.Promise.{DeepVerdict}
@@ -68,12 +68,12 @@ module _ {a b : Answer} (before one two : List ℕ) where
       → (a ≡ b) × (drop (2 * a.first) one ≡ drop (2 * a.first) two)
   verdict_told r u = told_one (λ (c : Answer). drop (2 * c.first) one ≡ drop (2 * c.first) two) by_nodes
     where
-      nodes : (x : Verdict) → witness_nodes x ≡ (of_verdict x).first
-      nodes verdict.Clear = refl
-      nodes (verdict.Conflict n) = refl
-      nodes (verdict.Refused r) = refl
+      nodes : (x : Result (Option ℕ) Refusal) → witness_nodes x ≡ (of_verdict x).first
+      nodes (Ok None) = refl
+      nodes (Ok (Some n)) = refl
+      nodes (Err r) = refl
 
-      by_nodes : (x y : Verdict) → NodeVerdict r u before one x → NodeVerdict r u before two y
+      by_nodes : (x y : Result (Option ℕ) Refusal) → NodeVerdict r u before one x → NodeVerdict r u before two y
           → (x ≡ y) × (drop (2 * (of_verdict x).first) one ≡ drop (2 * (of_verdict x).first) two)
       by_nodes x y f g =
           let both = verdict_one r u before one two x y f g in

@@ -9,7 +9,7 @@ ghost use Rattle.c_answer.specs.Answers.{Told};
 ghost use Rattle.c_numbers.specs.Numbers.{of_checked, of_deleted, of_inserted, of_compacted, of_mended};
 
 use c_answer::answer::Answer;
-use c_numbers::{checked, compacted, deleted, inserted, mended};
+use c_numbers::numbers;
 use doc_compact::compact;
 use doc_delete::delete;
 use doc_insert::insert;
@@ -29,14 +29,14 @@ pub fn sloefertand_v2_read(
 ) -> Answer
     ensures { Told of_checked (Read p.now (document rows.now marks.now used ids.now next) row.old row.new) result }
 {
-    checked(read(p, rows, marks, used, ids, next, row))
+    numbers(read(p, rows, marks, used, ids, next, row))
 }
 
 // The plain reading of a small bare tree: one byte a node. No value.
 pub fn sloefertand_plain_reading(p: &[u16], t: &[u16], row: &mut [u8]) -> Answer
     ensures { Told of_checked (PlainRead p.now t.now row.old row.new) result }
 {
-    checked(plain_reading(p, t, row))
+    numbers(plain_reading(p, t, row))
 }
 
 // Delete: selected nodes and all below are marked as removed. First: how many newly.
@@ -50,7 +50,7 @@ pub fn sloefertand_v2_delete(
 ) -> Answer
     ensures { Told of_deleted (Delete p.now (document rows.now marks.old used ids.now next) marks.old marks.new) result }
 {
-    deleted(delete(p, rows, marks, used, ids, next))
+    numbers(delete(p, rows, marks, used, ids, next))
 }
 
 // Insert: a copy of x under each selected node. First: the copies; second: the new used count; third: the new next identity.
@@ -65,7 +65,7 @@ pub fn sloefertand_v2_insert(
 ) -> Answer
     ensures { Told of_inserted (Insert p.now x.now (document rows.old marks.old used ids.old next) rows.old marks.old ids.old rows.new marks.new ids.new) result }
 {
-    inserted(insert(p, x, rows, marks, used, ids, next))
+    numbers(insert(p, x, rows, marks, used, ids, next))
 }
 
 // Compaction: removed nodes are dropped, and the rest is closed up in order. First: the new used count; second: how many were dropped.
@@ -78,7 +78,7 @@ pub fn sloefertand_compact(
 ) -> Answer
     ensures { Told of_compacted (Compact (document rows.old marks.old used ids.old next) rows.old marks.old ids.old rows.new marks.new ids.new) result }
 {
-    compacted(compact(rows, marks, used, ids, next))
+    numbers(compact(rows, marks, used, ids, next))
 }
 
 // Mending: the marks are made those of a sound document, and the list takes three words for each that ended up different: node number, old mark, new mark.
@@ -93,5 +93,5 @@ pub fn sloefertand_mend(
 ) -> Answer
     ensures { Told of_mended (Mend (document rows.now marks.old used ids.now next) marks.old list.old marks.new list.new) result }
 {
-    mended(mend(rows, marks, used, ids, next, list))
+    numbers(mend(rows, marks, used, ids, next, list))
 }

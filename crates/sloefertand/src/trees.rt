@@ -5,7 +5,7 @@ ghost use Rattle.c_answer.specs.Answers.{Told};
 ghost use Rattle.c_numbers.specs.Numbers.{of_parsed, of_printed};
 
 use c_answer::answer::Answer;
-use c_numbers::{parsed, printed};
+use c_numbers::numbers;
 use text_xml_in::read_tree;
 use text_xml_out::write_tree;
 
@@ -13,12 +13,12 @@ use text_xml_out::write_tree;
 pub fn sloefertand_write_tree(t: &[u16], out: &mut [u8]) -> Answer
     ensures { Told of_printed (WriteTree t.now out.old out.new) result }
 {
-    printed(write_tree(t, out))
+    numbers(write_tree(t, out))
 }
 
 // From a tree's text to its table. First: the words.
 pub fn sloefertand_read_tree(s: &[u8], words: &mut [u16]) -> Answer
     ensures { Told of_parsed (ReadTree s.now words.old words.new) result }
 {
-    parsed(read_tree(s, words))
+    numbers(read_tree(s, words))
 }

@@ -6,7 +6,7 @@ ghost use Rattle.c_answer.specs.Answers.{Told};
 ghost use Rattle.c_numbers.specs.Numbers.{of_verdict, of_deeply};
 
 use c_answer::answer::Answer;
-use c_numbers::{deeply, judged};
+use c_numbers::numbers;
 use verdict::{delete_verdict, insert_verdict};
 use verdict_deep::{deep_delete_verdict, deep_insert_verdict};
 
@@ -14,26 +14,26 @@ use verdict_deep::{deep_delete_verdict, deep_insert_verdict};
 pub fn sloefertand_delete_verdict(r: &[u16], p: &[u16], out: &mut [u16]) -> Answer
     ensures { Told of_verdict (NodeVerdict r.now (delete p.now) out.old out.new) result }
 {
-    judged(delete_verdict(r, p, out))
+    numbers(delete_verdict(r, p, out))
 }
 
 // A read and an insert of the tree x. First: as for a delete.
 pub fn sloefertand_insert_verdict(r: &[u16], p: &[u16], x: &[u16], out: &mut [u16]) -> Answer
     ensures { Told of_verdict (NodeVerdict r.now (insert p.now x.now) out.old out.new) result }
 {
-    judged(insert_verdict(r, p, x, out))
+    numbers(insert_verdict(r, p, x, out))
 }
 
 // A read and a delete, at and below the read nodes too. First: 1 for yes, 0 for no.
 pub fn sloefertand_deep_delete_verdict(r: &[u16], p: &[u16]) -> Answer
     ensures { Told of_deeply (DeepVerdict r.now (delete p.now)) result }
 {
-    deeply(deep_delete_verdict(r, p))
+    numbers(deep_delete_verdict(r, p))
 }
 
 // A read and an insert of the tree x, at and below the read nodes too. First: 1 for yes, 0 for no.
 pub fn sloefertand_deep_insert_verdict(r: &[u16], p: &[u16], x: &[u16]) -> Answer
     ensures { Told of_deeply (DeepVerdict r.now (insert p.now x.now)) result }
 {
-    deeply(deep_insert_verdict(r, p, x))
+    numbers(deep_insert_verdict(r, p, x))
 }

@@ -7,29 +7,35 @@ use native.Mathlib.Omega.{arith}
 use lib.Dec.{leb}
 use borrow.Author.Tests.{leb-true}
 use Rattle.tables.specs.declared.refusal.Refusal.{Refusal}
-use Rattle.tables.specs.declared.refusal.Checked.{Checked}
-use Rattle.tables.specs.declared.refusal.Checked.TheVariants.{Fine, Refused}
+use Rattle.tables.specs.Checks.{Checked}
+use Rattle.std.specs.Prelude.{Ok, Err}
+use Rattle.tables.specs.Checks.{Fine}
 use Rattle.tables.specs.Checks.{◌then◌, test, each, output_check}
 
 -- a check that is fine is no refusal
-pub never : {A : Type 0} {c : Checked} {r : Refusal} → c ≡ Refused r → c ≡ Fine → A
+pub never : {A : Type 0} {c : Checked} {r : Refusal} → c ≡ Err r → c ≡ Fine → A
 never e f = let z : ◌≡◌ {A = ℕ} 0 1 = cc in absurd (omega arith)
 
-pub held : (b : Bool) (r : Refusal) → test b (Refused r) ≡ Fine → b ≡ true
+pub held : (b : Bool) (r : Refusal) → test b (Err r) ≡ Fine → b ≡ true
 held true r e = refl
 held false r e = never refl e
 
 pub then_first : (a b : Checked) → (a then b) ≡ Fine → a ≡ Fine
-then_first Fine b e = refl
-then_first (Refused r) b e = never refl e
+then_first (Ok tt) b e = refl
+then_first (Err r) b e = never refl e
 
 pub then_second : (a b : Checked) → (a then b) ≡ Fine → b ≡ Fine
-then_second Fine b e = e
-then_second (Refused r) b e = never refl e
+then_second (Ok tt) b e = e
+then_second (Err r) b e = never refl e
 
 -- and back: where both checks are fine, so is one after the other
 pub then_both : (a b : Checked) → a ≡ Fine → b ≡ Fine → (a then b) ≡ Fine
 then_both a b e f = rw (e, f)
+
+-- of three checks in this order, any two may be made together
+pub then_assoc : (a b c : Checked) → ((a then b) then c) ≡ (a then b then c)
+then_assoc (Ok tt) b c = refl
+then_assoc (Err r) b c = refl
 
 -- each check that was made is fine
 pub each_fine : (check : ℕ → Checked) (v k : ℕ) → each check v k ≡ Fine → (i : ℕ) → i < k → check (v + i) ≡ Fine

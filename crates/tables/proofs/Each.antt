@@ -5,8 +5,9 @@ use native.Mathlib.Nat.{sub-zero}
 use native.Mathlib.Numerals.{add-one}
 use native.Mathlib.Omega.{arith}
 use Rattle.tables.specs.declared.refusal.Refusal.{Refusal}
-use Rattle.tables.specs.declared.refusal.Checked.{Checked}
-use Rattle.tables.specs.declared.refusal.Checked.TheVariants.{Fine, Refused}
+use Rattle.tables.specs.Checks.{Checked}
+use Rattle.std.specs.Prelude.{Ok, Err}
+use Rattle.tables.specs.Checks.{Fine}
 use Rattle.tables.specs.Checks.{each, ◌then◌}
 
 -- `whole` is what the loop answers: at i the rest computes it
@@ -24,7 +25,7 @@ module _ (check : ℕ → Checked) (n : ℕ) where
     pub each_on : i < n → check i ≡ Fine → whole ≡ each check (i + 1) (n - (i + 1))
     each_on h e = inv ∙ each_here i h ∙ rw e
 
-    pub each_off : {r : Refusal} {answer : Checked} → i < n → check i ≡ Refused r → answer ≡ Refused r → answer ≡ whole
+    pub each_off : {r : Refusal} {answer : Checked} → i < n → check i ≡ Err r → answer ≡ Err r → answer ≡ whole
     each_off h e a = a ∙ sym (inv ∙ each_here i h ∙ rw e)
 
     pub each_end : n ≤ i → Fine ≡ whole

@@ -5,8 +5,8 @@ use mathlib.Core.Bool.{Bool, ◌&&◌}
 use mathlib.Core.List.{List}
 use lib.Dec.{eqb, ltb, leb}
 use lib.ListN.{length}
-use Rattle.tables.specs.declared.refusal.Checked.{Checked}
-use Rattle.tables.specs.declared.refusal.Checked.TheVariants.{Fine}
+use Rattle.tables.specs.Checks.{Checked}
+use Rattle.tables.specs.Checks.{Fine}
 use Rattle.tables.specs.Words.{steps, nodes, tag}
 use Rattle.tables.specs.Checks.{refuse, ◌then◌, test, each, size_check, axis_right, axis_check, pattern_check, parent_right, node_check, tree_check}
 use Rattle.tables.proofs.Accepted.{held, then_first, then_second, then_both, each_fine, each_all}

@@ -8,3 +8,4 @@ pub mod First
 pub mod Soundness
 pub mod Elsewhere
 pub mod Refused
+pub mod Reasons

@@ -8,25 +8,27 @@ use lib.Dec.{eqb, ltb, leb}
 use lib.ListN.{length}
 use borrow.Author.Tests.{ltb-false}
 use Rattle.tables.specs.declared.refusal.Refusal.{Refusal}
-use Rattle.tables.specs.declared.refusal.Checked.{Checked}
-use Rattle.tables.specs.declared.refusal.Checked.TheVariants.{Fine, Refused}
+use Rattle.tables.specs.Checks.{Checked}
+use Rattle.std.specs.Prelude.{Ok, Err}
+use Rattle.tables.specs.Checks.{Fine}
+use Rattle.tables.specs.Refusals.{numbered}
 use Rattle.tables.specs.Words.{steps, nodes, tag}
 use Rattle.tables.specs.Checks.{refuse, ◌then◌, test, size_check, axis_right, axis_check, pattern_check, parent_right, node_check, tree_check}
 use Rattle.tables.proofs.Accepted.{never}
 use Rattle.tables.proofs.First.{First, each_first}
 
 -- a test has failed, and the refusal is its own
-pub test_why : (t : Bool) (q : Refusal) {r : Refusal} → test t (Refused q) ≡ Refused r → (t ≡ false) × (r ≡ q)
+pub test_why : (t : Bool) (q : Refusal) {r : Refusal} → test t (Err q) ≡ Err r → (t ≡ false) × (r ≡ q)
 test_why true q e = never e refl
 test_why false q e = (refl, cc)
 
 -- of two checks the first refuses, or it is fine and the second does
-pub then_why : {P : Type 0} (a b : Checked) {r : Refusal} → (a ≡ Refused r → P) → (a ≡ Fine → b ≡ Refused r → P) → (a then b) ≡ Refused r → P
-then_why Fine b first second e = second refl e
-then_why (Refused q) b first second e = first e
+pub then_why : {P : Type 0} (a b : Checked) {r : Refusal} → (a ≡ Err r → P) → (a ≡ Fine → b ≡ Err r → P) → (a then b) ≡ Err r → P
+then_why (Ok tt) b first second e = second refl e
+then_why (Err q) b first second e = first e
 
 -- the size has no place
-size_why : (n limit table : ℕ) {r : Refusal} → size_check n limit table ≡ Refused r → r.place ≡ 0
+size_why : (n limit table : ℕ) {r : Refusal} → size_check n limit table ≡ Err r → r.place ≡ 0
 unfolding size_check
 size_why n limit table e =
     then_why (test (ltb 0 n && eqb (n % 2) 0) (refuse 1 table 0)) (test (leb (n / 2) limit) (refuse 2 table 0))
@@ -36,10 +38,10 @@ size_why n limit table e =
 
 -- what is wrong with a pattern: its size, or the axis of one of its steps
 pub data WrongSteps (p : List ℕ) (limit table : ℕ) (r : Refusal) : Type 0 where
-  size_of_steps : size_check (length p) limit table ≡ Refused r → r.place ≡ 0 → WrongSteps p limit table r
-  axis_of : (i : ℕ) → i < steps p → axis_right p i ≡ false → r ≡ record { number = 3; table = table; place = i } → WrongSteps p limit table r
+  size_of_steps : size_check (length p) limit table ≡ Err r → r.place ≡ 0 → WrongSteps p limit table r
+  axis_of : (i : ℕ) → i < steps p → axis_right p i ≡ false → r ≡ record { reason = numbered 3; table = table; place = i } → WrongSteps p limit table r
 
-pub pattern_why : (p : List ℕ) (limit table : ℕ) {r : Refusal} → pattern_check p limit table ≡ Refused r → WrongSteps p limit table r
+pub pattern_why : (p : List ℕ) (limit table : ℕ) {r : Refusal} → pattern_check p limit table ≡ Err r → WrongSteps p limit table r
 unfolding pattern_check axis_check
 pattern_why p limit table {r} e =
     then_why (size_check (length p) limit table) _
@@ -52,11 +54,11 @@ pattern_why p limit table {r} e =
 
 -- what is wrong with a tree: its size, or the parent or the label of one of its nodes
 pub data WrongNodes (t : List ℕ) (limit table : ℕ) (r : Refusal) : Type 0 where
-  size_of_nodes : size_check (length t) limit table ≡ Refused r → r.place ≡ 0 → WrongNodes t limit table r
-  parent_of : (v : ℕ) → v < nodes t → parent_right t v ≡ false → r ≡ record { number = 4; table = table; place = v } → WrongNodes t limit table r
-  label_of : (v : ℕ) → v < nodes t → tag t v ≡ 0 → r ≡ record { number = 5; table = table; place = v } → WrongNodes t limit table r
+  size_of_nodes : size_check (length t) limit table ≡ Err r → r.place ≡ 0 → WrongNodes t limit table r
+  parent_of : (v : ℕ) → v < nodes t → parent_right t v ≡ false → r ≡ record { reason = numbered 4; table = table; place = v } → WrongNodes t limit table r
+  label_of : (v : ℕ) → v < nodes t → tag t v ≡ 0 → r ≡ record { reason = numbered 5; table = table; place = v } → WrongNodes t limit table r
 
-pub tree_why : (t : List ℕ) (limit table : ℕ) {r : Refusal} → tree_check t limit table ≡ Refused r → WrongNodes t limit table r
+pub tree_why : (t : List ℕ) (limit table : ℕ) {r : Refusal} → tree_check t limit table ≡ Err r → WrongNodes t limit table r
 unfolding tree_check node_check
 tree_why t limit table {r} e =
     then_why (size_check (length t) limit table) _

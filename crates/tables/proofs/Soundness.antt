@@ -10,14 +10,15 @@ use native.Mathlib.Omega.{arith}
 use lib.Dec.{eqb, ltb, leb}
 use lib.ListN.{length}
 use borrow.Author.Tests.{eqb-true, ltb-true, leb-true, eq-eqb, ne_eqb, lt-ltb, le-leb}
-use Rattle.tables.specs.declared.refusal.Checked.{Checked}
-use Rattle.tables.specs.declared.refusal.Checked.TheVariants.{Fine, Refused}
+use Rattle.tables.specs.Checks.{Checked}
+use Rattle.std.specs.Prelude.{Ok, Err}
+use Rattle.tables.specs.Checks.{Fine}
 use Rattle.tables.specs.Limits.{used_limit}
 use Rattle.tables.specs.Words.{steps, axis, nodes, parent, tag, Bits16}
 use Rattle.tables.specs.Patterns.{Pattern}
 use Rattle.tables.specs.Documents.{Doc, bare, mark, Sound}
 use Rattle.tables.specs.Checks.{refuse, ◌then◌, test, each, size_check, axis_right, axis_check, pattern_check, parent_right, node_check, tree_check, used_right, used_check, mark_right, mark_check, shape_check, document_check}
-use Rattle.tables.proofs.Accepted.{held, then_first, then_second, each_fine, each_all}
+use Rattle.tables.proofs.Accepted.{then_assoc, held, then_first, then_second, each_fine, each_all}
 
 -- one of two tests holds
 pub either_of : (a b : Bool) → (a || b) ≡ true → (a ≡ true) ⊎ (b ≡ true)
@@ -186,10 +187,6 @@ module _ (d : Doc) (e : shape_check d ≡ Fine) where
         leb-true n (length d.rows / 2) (and_first (leb n (length d.rows / 2)) (leb n (length d.marks)) w),
         leb-true n (length d.marks) (and_second (leb n (length d.rows / 2)) (leb n (length d.marks)) w),
       )
-
-then_assoc : (a b c : Checked) → ((a then b) then c) ≡ (a then b then c)
-then_assoc Fine b c = refl
-then_assoc (Refused r) b c = refl
 
 -- a document's check is that of its shape, then that of its marks
 pub document_parts : (d : Doc) → document_check d ≡ (shape_check d then each (mark_check d.rows d.marks) 0 d.used)

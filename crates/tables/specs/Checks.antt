@@ -1,20 +1,27 @@
 -- The checks of patterns, trees and documents: which refusal each gives, by document 01's order of checks.
-use Rattle.std.specs.Prelude.{ℕ, zero, suc, ◌/◌, ◌%◌, Bool, true, false, ◌&&◌, ◌||◌, cond, List, eqb, ltb, leb, length, get_or}
+use Rattle.std.specs.Prelude.{ℕ, zero, suc, ◌/◌, ◌%◌, Bool, true, false, ◌&&◌, ◌||◌, cond, List, eqb, ltb, leb, length, get_or, Result, Ok, Err}
 use Rattle.tables.specs.Limits.{used_limit}
 use Rattle.tables.specs.Words.{steps, axis, nodes, parent, tag}
 use Rattle.tables.specs.Documents.{Doc}
-use Rattle.tables.specs.declared.refusal.Checked.{Checked}
-use Rattle.tables.specs.declared.refusal.Checked.TheVariants.{Fine, Refused}
+use Rattle.tables.specs.declared.refusal.Refusal.{Refusal}
+use Rattle.tables.specs.Refusals.{numbered}
 
 infixr 20 ◌then◌
+-- what a check answers: fine, or the refusal that it gives
+abbrev pub Checked : Type 0
+Checked = Result (Unit {0}) Refusal
+
+abbrev pub Fine : Checked
+Fine = Ok tt
+
 -- refusal number n, with the table at fault and the place
 abbrev pub refuse : ℕ → ℕ → ℕ → Checked
-refuse n table place = Refused (record { number = n; table = table; place = place })
+refuse n table place = Err (record { reason = numbered n; table = table; place = place })
 
 -- the first refusal of two checks, in this order
 abbrev pub ◌then◌ : Checked → Checked → Checked
-Fine then c = c
-Refused r then c = Refused r
+Ok tt then c = c
+Err r then c = Err r
 
 -- fine where the test holds, else the refusal
 abbrev pub test : Bool → Checked → Checked
@@ -23,8 +30,8 @@ test false c = c
 
 -- this where a check is fine, else that
 abbrev pub where_fine : {A : Type 0} → Checked → A → A → A
-where_fine Fine this that = this
-where_fine (Refused r) this that = that
+where_fine (Ok tt) this that = this
+where_fine (Err r) this that = that
 
 -- the first refusal of a check made from v on, at k numbers
 unfoldable pub each : (ℕ → Checked) → ℕ → ℕ → Checked

@@ -3,4 +3,5 @@ pub mod Limits
 pub mod Words
 pub mod Patterns
 pub mod Documents
+pub mod Refusals
 pub mod Checks

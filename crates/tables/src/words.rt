@@ -2,18 +2,12 @@
 ghost use Rattle.std.specs.Prelude.{◌≡◌, get_or};
 ghost use Rattle.tables.specs.Words.{parent, tag};
 
-fn wide(x: u16) -> usize
-    ensures { result ≡ x }
-{
-    x as usize
-}
-
 // The word at i.
 pub fn word(t: &[u16], i: usize) -> usize
     ensures { result ≡ get_or t.now i 0 }
 {
     if i < t.len() {
-        return wide(t[i]);
+        return usize::from(t[i]);
     }
     0
 }
@@ -23,7 +17,7 @@ pub fn first_word(t: &[u16], v: usize) -> usize
     ensures { result ≡ parent t.now v }
 {
     if v < t.len() - t.len() / 2 {
-        return wide(t[2 * v]);
+        return usize::from(t[2 * v]);
     }
     0
 }
@@ -33,15 +27,9 @@ pub fn second_word(t: &[u16], v: usize) -> usize
     ensures { result ≡ tag t.now v }
 {
     if v < t.len() / 2 {
-        return wide(t[2 * v + 1]);
+        return usize::from(t[2 * v + 1]);
     }
     0
-}
-
-fn small(x: u8) -> usize
-    ensures { result ≡ x }
-{
-    x as usize
 }
 
 // The mark byte at v.
@@ -49,7 +37,7 @@ pub fn byte(m: &[u8], v: usize) -> usize
     ensures { result ≡ get_or m.now v 0 }
 {
     if v < m.len() {
-        return small(m[v]);
+        return usize::from(m[v]);
     }
     0
 }

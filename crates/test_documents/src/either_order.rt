@@ -137,10 +137,8 @@ fn pairs(t: usize, m: usize, s: Sums) -> Sums {
         return s;
     }
     let mut sums = s;
-    let mut c = 0;
-    while c < PAIRS {
+    for c in 0..PAIRS {
         sums = pair(c, t, m, sums);
-        c += 1;
     }
     sums
 }
@@ -148,10 +146,8 @@ fn pairs(t: usize, m: usize, s: Sums) -> Sums {
 // On the tree with every marking.
 fn markings(t: usize, count: usize, s: Sums) -> Sums {
     let mut sums = s;
-    let mut m = 0;
-    while m < count {
+    for m in 0..count {
         sums = pairs(t, m, sums);
-        m += 1;
     }
     sums
 }
@@ -165,10 +161,8 @@ fn documents(from: usize, to: usize) -> Sums {
         each: 0,
         digest: 0,
     };
-    let mut t = from;
-    while t < to {
+    for t in from..to {
         sums = markings(t, marking_count(t), sums);
-        t += 1;
     }
     sums
 }

@@ -133,10 +133,8 @@ fn inserts(p: &[u16], x: &[u16]) -> Sums {
         without_room: 0,
         digest: 0,
     };
-    let mut c = 0;
-    while c < INSERTS {
+    for c in 0..INSERTS {
         s = insert_of(p, x, c, s);
-        c += 1;
     }
     s
 }

@@ -302,10 +302,8 @@ fn case(call: usize, k: usize, c: usize, t: Tally) -> Tally {
 // Every case.
 fn cases(call: usize, k: usize, count: usize) -> Tally {
     let mut t = nothing();
-    let mut c = 0;
-    while c < count {
+    for c in 0..count {
         t = case(call, k, c, t);
-        c += 1;
     }
     t
 }

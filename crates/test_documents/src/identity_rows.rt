@@ -79,10 +79,8 @@ fn checked_row(k: usize, kinds: usize, n: usize, used: usize, next: u32, t: Tall
 // Every row of n identities, of which there are so many.
 fn rows_of(n: usize, count: usize, kinds: usize, used: usize, next: u32, t: Tally) -> Tally {
     let mut tally = t;
-    let mut k = 0;
-    while k < count {
+    for k in 0..count {
         tally = checked_row(k, kinds, n, used, next, tally);
-        k += 1;
     }
     tally
 }

@@ -52,19 +52,15 @@ fn node(d: usize, v: usize, s: usize, rows: &mut [u16], marks: &mut [u8]) -> usi
 pub(crate) fn document(d: usize, rows: &mut [u16], marks: &mut [u8]) {
     pair(rows, 0, 0, 1);
     let mut s = d;
-    let mut v = 1;
-    while v < NODES {
+    for v in 1..NODES {
         s = node(d, v, s, rows, marks);
-        v += 1;
     }
 }
 
 // Its identities.
 pub(crate) fn identities(d: usize, ids: &mut [u32]) {
-    let mut v = 0;
-    while v < NODES {
+    for v in 0..NODES {
         put_id(ids, v, narrowed(v * 4000000 + d % 16));
-        v += 1;
     }
 }
 

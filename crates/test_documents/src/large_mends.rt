@@ -58,10 +58,8 @@ fn node(form: usize, k: usize, v: usize, table: &mut [u16], marks: &mut [u8], id
 
 // Writes every node.
 fn document(form: usize, k: usize, table: &mut [u16], marks: &mut [u8], ids: &mut [u32]) {
-    let mut v = 0;
-    while v < NODES {
+    for v in 0..NODES {
         node(form, k, v, table, marks, ids);
-        v += 1;
     }
 }
 

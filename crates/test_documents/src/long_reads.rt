@@ -125,10 +125,8 @@ fn reads(again: bool, n: usize) -> Sums {
         selected: 0,
         digest: 0,
     };
-    let mut c = 0;
-    while c < READS {
+    for c in 0..READS {
         t = read_made(again, n, c, t);
-        c += 1;
     }
     t
 }
@@ -257,10 +255,8 @@ fn compaction(stdout: Stdout, d: usize) -> io::Result<()> {
 
 // Every compaction.
 fn compactions(stdout: Stdout) -> io::Result<()> {
-    let mut d = 0;
-    while d < COMPACTED {
+    for d in 0..COMPACTED {
         compaction(stdout, d)?;
-        d += 1;
     }
     Ok(())
 }

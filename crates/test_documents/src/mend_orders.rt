@@ -56,10 +56,8 @@ fn case(k: usize, c: usize, s: Sums) -> Sums {
 // Every case.
 fn cases(k: usize) -> Sums {
     let mut s = no_calls();
-    let mut c = 0;
-    while c < CASES {
+    for c in 0..CASES {
         s = case(k, c, s);
-        c += 1;
     }
     s
 }

@@ -186,10 +186,8 @@ fn sound(n: usize, c: usize) -> bool {
 // How many are.
 fn sounds(n: usize, count: usize) -> usize {
     let mut all = 0;
-    let mut c = 0;
-    while c < count {
+    for c in 0..count {
         all = one_more(all, sound(n, c));
-        c += 1;
     }
     all
 }
@@ -214,10 +212,8 @@ fn document(n: usize, c: usize, room: usize, s: Sums) -> Sums {
 // Every document of n nodes, of which there are so many.
 fn documents(n: usize, count: usize, room: usize) -> Sums {
     let mut s = no_calls();
-    let mut c = 0;
-    while c < count {
+    for c in 0..count {
         s = document(n, c, room, s);
-        c += 1;
     }
     s
 }
@@ -256,10 +252,8 @@ fn room_line(stdout: Stdout, room: usize) -> io::Result<()> {
 
 // The lines of all lengths.
 fn room_lines(stdout: Stdout) -> io::Result<()> {
-    let mut room = 0;
-    while room < ROOMS {
+    for room in 0..ROOMS {
         room_line(stdout, room)?;
-        room += 1;
     }
     Ok(())
 }

@@ -138,10 +138,8 @@ fn insert_of(p: &[u16], x: usize, t: usize, m: usize, d: u64) -> u64 {
 // Every tree at p.
 fn inserts_at(p: &[u16], t: usize, m: usize, d: u64) -> u64 {
     let mut sum = d;
-    let mut x = 0;
-    while x < INSERTED {
+    for x in 0..INSERTED {
         sum = insert_of(p, x, t, m, sum);
-        x += 1;
     }
     sum
 }
@@ -176,10 +174,8 @@ fn use_of(way: usize, k: usize, t: usize, m: usize, d: u64) -> u64 {
 // Every pattern in one of its uses.
 fn uses(way: usize, t: usize, m: usize) -> u64 {
     let mut d = 0;
-    let mut k = 0;
-    while k < PATTERNS {
+    for k in 0..PATTERNS {
         d = use_of(way, k, t, m, d);
-        k += 1;
     }
     d
 }
@@ -213,19 +209,15 @@ fn line(stdout: Stdout, t: usize, m: usize) -> io::Result<()> {
 
 // Every marking.
 fn markings(stdout: Stdout, t: usize, count: usize) -> io::Result<()> {
-    let mut m = 0;
-    while m < count {
+    for m in 0..count {
         line(stdout, t, m)?;
-        m += 1;
     }
     Ok(())
 }
 
 pub(crate) fn table(stdout: Stdout) -> io::Result<()> {
-    let mut t = 0;
-    while t < TREES {
+    for t in 0..TREES {
         markings(stdout, t, marking_count(t))?;
-        t += 1;
     }
     Ok(())
 }

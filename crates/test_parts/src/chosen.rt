@@ -6,10 +6,8 @@ use tables::words::byte;
 // The sum of some bytes and a number.
 pub fn sum(n: usize, m: &[u8]) -> usize {
     let mut all = n;
-    let mut i = 0;
-    while i < m.len() {
+    for i in 0..m.len() {
         all = all % 16777216 + byte(m, i) % 256;
-        i += 1;
     }
     all
 }
@@ -25,10 +23,8 @@ fn one(d: u64, row: &[u8], ids: &[u32], i: usize) -> u64 {
 // How many nodes are selected, and their identities.
 pub fn chosen(d: u64, row: &[u8], ids: &[u32]) -> u64 {
     let mut all = taken(d, sum(0, row));
-    let mut i = 0;
-    while i < row.len() {
+    for i in 0..row.len() {
         all = one(all, row, ids, i);
-        i += 1;
     }
     all
 }

@@ -13,10 +13,8 @@ pub fn taken(d: u64, x: usize) -> u64 {
 // Each of some words.
 pub fn words(d: u64, t: &[u16]) -> u64 {
     let mut sum = d;
-    let mut i = 0;
-    while i < t.len() {
+    for i in 0..t.len() {
         sum = taken(sum, word(t, i));
-        i += 1;
     }
     sum
 }
@@ -24,10 +22,8 @@ pub fn words(d: u64, t: &[u16]) -> u64 {
 // Each of some bytes.
 pub fn bytes(d: u64, m: &[u8]) -> u64 {
     let mut sum = d;
-    let mut i = 0;
-    while i < m.len() {
+    for i in 0..m.len() {
         sum = taken(sum, byte(m, i));
-        i += 1;
     }
     sum
 }
@@ -40,10 +36,8 @@ pub fn halves(d: u64, x: usize) -> u64 {
 // Each of some identities.
 pub fn ids(d: u64, t: &[u32]) -> u64 {
     let mut sum = d;
-    let mut i = 0;
-    while i < t.len() {
+    for i in 0..t.len() {
         sum = halves(sum, id(t, i));
-        i += 1;
     }
     sum
 }

@@ -110,10 +110,8 @@ fn node(t: &mut [u16], v: usize, choice: usize) {
 
 // Clears the words.
 fn cleared(t: &mut [u16]) {
-    let mut i = 0;
-    while i < t.len() {
+    for i in 0..t.len() {
         t[i] = 0;
-        i += 1;
     }
 }
 

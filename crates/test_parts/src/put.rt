@@ -13,10 +13,8 @@ pub fn put(out: &mut [u8], at: usize, b: u8) -> usize {
 // All of some bytes.
 pub fn put_all(out: &mut [u8], at: usize, s: &[u8]) -> usize {
     let mut end = at;
-    let mut i = 0;
-    while i < s.len() {
+    for i in 0..s.len() {
         end = put(out, end, s[i]);
-        i += 1;
     }
     end
 }

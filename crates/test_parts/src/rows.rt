@@ -20,22 +20,18 @@ pub fn first(k: usize, kinds: usize) -> usize {
 // Row k of bytes, as many as there is room for.
 pub fn bytes(k: usize, alphabet: &[u8], row: &mut [u8]) {
     let mut rest = k;
-    let mut i = 0;
-    while i < row.len() {
+    for i in 0..row.len() {
         row[i] = (byte(alphabet, first(rest, alphabet.len())) % 256) as u8;
         rest = behind(rest, alphabet.len());
-        i += 1;
     }
 }
 
 // Row k of words from 0 on, as many as there is room for.
 pub fn words(k: usize, kinds: usize, row: &mut [u16]) {
     let mut rest = k;
-    let mut i = 0;
-    while i < row.len() {
+    for i in 0..row.len() {
         row[i] = (first(rest, kinds) % 65536) as u16;
         rest = behind(rest, kinds);
-        i += 1;
     }
 }
 
@@ -44,12 +40,10 @@ pub fn same_words(a: &[u16], b: &[u16]) -> bool {
     if a.len() != b.len() {
         return false;
     }
-    let mut i = 0;
-    while i < a.len() {
+    for i in 0..a.len() {
         if word(a, i) != word(b, i) {
             return false;
         }
-        i += 1;
     }
     true
 }

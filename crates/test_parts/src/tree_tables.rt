@@ -40,10 +40,8 @@ fn numbered_node(kinds: usize, v: usize, rest: usize, t: &mut [u16]) -> usize {
 // Tree k of n nodes with so many kinds of labels.
 pub fn numbered(k: usize, kinds: usize, n: usize, t: &mut [u16]) {
     let mut rest = k;
-    let mut v = 0;
-    while v < n {
+    for v in 0..n {
         rest = numbered_node(kinds, v, rest, t);
-        v += 1;
     }
 }
 
@@ -87,10 +85,8 @@ fn drawn_node(shape: usize, v: usize, s: usize, t: &mut [u16]) -> usize {
 // The tree of a shape with n nodes.
 pub fn drawn(shape: usize, n: usize, t: &mut [u16]) {
     let mut s = shape % 6 * 1000 + n % 65536;
-    let mut v = 0;
-    while v < n {
+    for v in 0..n {
         s = drawn_node(shape, v, s, t);
-        v += 1;
     }
 }
 

@@ -99,9 +99,7 @@ fn step(i: usize, strange: bool, w: Way, rows: &[u16], p: &mut [u16]) -> Way {
 // The steps from the last to the first, along a way up; one of them may have a label of its own.
 pub fn steps(n: usize, strange: usize, way: Way, rows: &[u16], p: &mut [u16]) {
     let mut w = way;
-    let mut i = n;
-    while 0 < i {
-        i -= 1;
+    for i in (0..n).rev() {
         w = step(i, i == strange, w, rows, p);
     }
 }

@@ -50,10 +50,8 @@ fn show_run(
 // The batch, with room behind it.
 fn copied(b: &[u16]) -> [u16; ROOM] {
     let mut words = [0u16; ROOM];
-    let mut i = 0;
-    while i < ROOM {
+    for i in 0..ROOM {
         words[i] = word_of(b, i);
-        i += 1;
     }
     words
 }
@@ -81,15 +79,13 @@ fn values(stdout: Stdout, name: usize, b: &[u16], w: usize, frames: usize) -> io
     let mut words = copied(b);
     let mut from = 0;
     let mut last = replaced(&mut words, w, 0, n, frames);
-    let mut value = 1;
-    while value < 65536 {
+    for value in 1..65536 {
         let a = replaced(&mut words, w, (value % 65536) as u16, n, frames);
         if a != last {
             show_run(stdout, name, w, from, earlier_than(value, 0), last)?;
             from = value;
             last = a;
         }
-        value += 1;
     }
     show_run(stdout, name, w, from, 65535, last)
 }
@@ -97,10 +93,8 @@ fn values(stdout: Stdout, name: usize, b: &[u16], w: usize, frames: usize) -> io
 // The batch without word w.
 fn without(b: &[u16], w: usize) -> [u16; ROOM] {
     let mut words = [0u16; ROOM];
-    let mut i = 0;
-    while i < ROOM {
+    for i in 0..ROOM {
         words[i] = word_of(b, later_than(i, w));
-        i += 1;
     }
     words
 }
@@ -116,10 +110,8 @@ fn later_than(i: usize, w: usize) -> usize {
 // The batch with word w twice.
 fn doubled(b: &[u16], w: usize) -> [u16; ROOM] {
     let mut words = [0u16; ROOM];
-    let mut i = 0;
-    while i < ROOM {
+    for i in 0..ROOM {
         words[i] = word_of(b, earlier_than(i, w));
-        i += 1;
     }
     words
 }
@@ -150,11 +142,9 @@ fn lost_and_twice(
 
 // Every word of a batch.
 fn damaged(stdout: Stdout, name: usize, b: &[u16], frames: usize) -> io::Result<()> {
-    let mut w = 0;
-    while w < b.len() {
+    for w in 0..b.len() {
         values(stdout, name, b, w, frames)?;
         lost_and_twice(stdout, name, b, w, frames)?;
-        w += 1;
     }
     Ok(())
 }

@@ -56,10 +56,8 @@ struct Damages {
 
 // The same pair again and again.
 fn repeated(first: usize, second: usize, out: &mut [u16]) {
-    let mut v = 0;
-    while v < out.len() {
+    for v in 0..out.len() {
         pair(out, v, first, second);
-        v += 1;
     }
 }
 
@@ -137,19 +135,15 @@ fn show_alone(stdout: Stdout, name: &[u8], table: usize, d: usize, a: Answer) ->
 
 // Every damage of a table alone.
 fn deletes_alone(stdout: Stdout, table: usize, count: usize) -> io::Result<()> {
-    let mut d = 0;
-    while d < count {
+    for d in 0..count {
         show_alone(stdout, b"delete ", table, d, deleted(alone(table, d)))?;
-        d += 1;
     }
     Ok(())
 }
 
 fn inserts_alone(stdout: Stdout, table: usize, count: usize) -> io::Result<()> {
-    let mut d = 0;
-    while d < count {
+    for d in 0..count {
         show_alone(stdout, b"insert ", table, d, inserted(alone(table, d)))?;
-        d += 1;
     }
     Ok(())
 }
@@ -185,10 +179,8 @@ fn of_delete(r: usize, c: usize) -> Damages {
 // Every delete with a damage of the read.
 fn deletes(r: usize) -> Sums {
     let mut s = nothing();
-    let mut c = 0;
-    while c < 156 {
+    for c in 0..156 {
         s = called(deleted(of_delete(r, c)), s);
-        c += 1;
     }
     s
 }
@@ -206,10 +198,8 @@ fn of_insert(r: usize, c: usize) -> Damages {
 // Every insert with a damage of the read.
 fn inserts(r: usize) -> Sums {
     let mut s = nothing();
-    let mut c = 0;
-    while c < 2028 {
+    for c in 0..2028 {
         s = called(inserted(of_insert(r, c)), s);
-        c += 1;
     }
     s
 }
@@ -224,19 +214,15 @@ fn line(stdout: Stdout, name: &[u8], r: usize, s: Sums) -> io::Result<()> {
 }
 
 fn delete_lines(stdout: Stdout) -> io::Result<()> {
-    let mut r = 0;
-    while r < PATTERNS {
+    for r in 0..PATTERNS {
         line(stdout, b"damaged-delete ", r, deletes(r))?;
-        r += 1;
     }
     Ok(())
 }
 
 fn insert_lines(stdout: Stdout) -> io::Result<()> {
-    let mut r = 0;
-    while r < PATTERNS {
+    for r in 0..PATTERNS {
         line(stdout, b"damaged-insert ", r, inserts(r))?;
-        r += 1;
     }
     Ok(())
 }

@@ -65,10 +65,8 @@ fn of_pair(k: usize, p: &[u16], x: &[u16], t: &[u16]) -> u8 {
 // An update against every read.
 fn signs(p: &[u16], x: &[u16], t: &[u16]) -> [u8; READS] {
     let mut row = [0u8; READS];
-    let mut k = 0;
-    while k < READS {
+    for k in 0..READS {
         row[k] = of_pair(k, p, x, t);
-        k += 1;
     }
     row
 }
@@ -86,10 +84,8 @@ fn delete_of(stdout: Stdout, k: usize, t: &[u16]) -> io::Result<()> {
 }
 
 fn deletes(stdout: Stdout, t: &[u16]) -> io::Result<()> {
-    let mut k = 0;
-    while k < DELETES {
+    for k in 0..DELETES {
         delete_of(stdout, k, t)?;
-        k += 1;
     }
     Ok(())
 }
@@ -104,10 +100,8 @@ fn insert_of(stdout: Stdout, k: usize, t: &[u16]) -> io::Result<()> {
 }
 
 fn inserts(stdout: Stdout, t: &[u16]) -> io::Result<()> {
-    let mut k = 0;
-    while k < INSERTS {
+    for k in 0..INSERTS {
         insert_of(stdout, k, t)?;
-        k += 1;
     }
     Ok(())
 }
@@ -122,10 +116,8 @@ fn tree_line(stdout: Stdout, k: usize) -> io::Result<()> {
 }
 
 fn tree_lines(stdout: Stdout) -> io::Result<()> {
-    let mut k = 0;
-    while k < TREES {
+    for k in 0..TREES {
         tree_line(stdout, k)?;
-        k += 1;
     }
     Ok(())
 }
@@ -181,10 +173,8 @@ fn drawn(r: &[u16], state: usize) -> Sums {
         yes: 0,
         digest: 0,
     };
-    let mut k = 0;
-    while k < TREES {
+    for k in 0..TREES {
         s = drawn_of(r, k, s);
-        k += 1;
     }
     s
 }
@@ -203,10 +193,8 @@ fn drawn_line(stdout: Stdout, k: usize) -> io::Result<()> {
 }
 
 fn drawn_lines(stdout: Stdout) -> io::Result<()> {
-    let mut k = 0;
-    while k < PATTERNS {
+    for k in 0..PATTERNS {
         drawn_line(stdout, k)?;
-        k += 1;
     }
     Ok(())
 }

@@ -45,10 +45,8 @@ fn drawn_node(shape: usize, v: usize, s: usize, t: &mut [u16]) -> usize {
 // The tree of a shape with n nodes.
 fn drawn(shape: usize, n: usize, t: &mut [u16]) {
     let mut s = shape % 6 * 1000 + n % 65536;
-    let mut v = 0;
-    while v < n {
+    for v in 0..n {
         s = drawn_node(shape, v, s, t);
-        v += 1;
     }
 }
 
@@ -63,11 +61,9 @@ fn mark(v: usize, node: usize, label: usize) -> usize {
 // The same tree with one label at one node and 1 at all others.
 fn marked(shape: usize, n: usize, node: usize, label: usize, t: &mut [u16]) {
     drawn(shape, n, t);
-    let mut v = 0;
-    while v < n {
+    for v in 0..n {
         let above = first_word(t, v);
         pair(t, v, above, mark(v, node, label));
-        v += 1;
     }
 }
 
@@ -124,10 +120,8 @@ fn marked_inserts(stdout: Stdout, shape: usize, n: usize, m: usize) -> io::Resul
     spaced(stdout, shape)?;
     spaced(stdout, n)?;
     number(stdout, m)?;
-    let mut k = 0;
-    while k < 9 {
+    for k in 0..9 {
         marked_insert(stdout, shape, n, m, k)?;
-        k += 1;
     }
     text(stdout, b"\n")
 }
@@ -146,10 +140,8 @@ fn marked_deletes(stdout: Stdout, shape: usize, n: usize) -> io::Result<()> {
     text(stdout, b"marked-delete ")?;
     spaced(stdout, shape)?;
     number(stdout, n)?;
-    let mut k = 0;
-    while k < 3 {
+    for k in 0..3 {
         marked_delete(stdout, shape, n, k)?;
-        k += 1;
     }
     text(stdout, b"\n")
 }
@@ -265,8 +257,7 @@ fn way_deletes(stdout: Stdout, shape: usize, steps: usize) -> io::Result<()> {
     text(stdout, b"way-delete ")?;
     spaced(stdout, shape)?;
     number(stdout, steps)?;
-    let mut k = 0;
-    while k < CASES {
+    for k in 0..CASES {
         show_node(
             stdout,
             way_delete(Case {
@@ -275,7 +266,6 @@ fn way_deletes(stdout: Stdout, shape: usize, steps: usize) -> io::Result<()> {
                 number: k,
             }),
         )?;
-        k += 1;
     }
     text(stdout, b"\n")
 }
@@ -284,8 +274,7 @@ fn way_inserts(stdout: Stdout, shape: usize, steps: usize) -> io::Result<()> {
     text(stdout, b"way-insert ")?;
     spaced(stdout, shape)?;
     number(stdout, steps)?;
-    let mut k = 0;
-    while k < CASES {
+    for k in 0..CASES {
         show_node(
             stdout,
             way_insert(Case {
@@ -294,7 +283,6 @@ fn way_inserts(stdout: Stdout, shape: usize, steps: usize) -> io::Result<()> {
                 number: k,
             }),
         )?;
-        k += 1;
     }
     text(stdout, b"\n")
 }

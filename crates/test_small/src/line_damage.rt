@@ -129,12 +129,10 @@ pub(crate) fn put_lines(
 ) -> usize {
     let mut at = start;
     let mut from = 0;
-    let mut n = 0;
-    while n < frames {
+    for n in 0..frames {
         let to = end_of(b, n, from);
         at = put_line(out, at, part(b, from, to), counted_from(d, from));
         from = to;
-        n += 1;
     }
     at
 }
@@ -214,22 +212,18 @@ fn show_answers(
     first: usize,
     behind: usize,
 ) -> io::Result<()> {
-    let mut kind = first;
-    while kind < behind {
+    for kind in first..behind {
         show_damaged(stdout, b, frames, Damage { word: w, kind })?;
-        kind += 1;
     }
     text(stdout, b"\n")
 }
 
 // Every word of a batch.
 fn words_of(stdout: Stdout, name: usize, b: &[u16], frames: usize) -> io::Result<()> {
-    let mut w = 0;
-    while w < b.len() {
+    for w in 0..b.len() {
         spaced(stdout, name)?;
         number(stdout, w)?;
         show_answers(stdout, b, frames, w, 0, DAMAGES)?;
-        w += 1;
     }
     Ok(())
 }
@@ -237,13 +231,11 @@ fn words_of(stdout: Stdout, name: usize, b: &[u16], frames: usize) -> io::Result
 // Every line of a batch, known by its first word.
 fn texts_of(stdout: Stdout, name: usize, b: &[u16], frames: usize) -> io::Result<()> {
     let mut from = 0;
-    let mut n = 0;
-    while n < frames {
+    for n in 0..frames {
         let to = end_of(b, n, from);
         spaced(stdout, name)?;
         text(stdout, b"line ")?;
-        n += 1;
-        number(stdout, n)?;
+        number(stdout, n + 1)?;
         show_answers(stdout, b, frames, from, CUT, ALL)?;
         from = to;
     }

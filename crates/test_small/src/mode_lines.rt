@@ -25,10 +25,8 @@ fn show_damaged(stdout: Stdout, b: &[u16], frames: usize, d: Damage) -> io::Resu
 
 // The answers for every damage of a word of the mode line.
 fn show_damages(stdout: Stdout, b: &[u16], frames: usize, word: usize) -> io::Result<()> {
-    let mut kind = 0;
-    while kind < DAMAGES {
+    for kind in 0..DAMAGES {
         show_damaged(stdout, b, frames, Damage { word, kind })?;
-        kind += 1;
     }
     Ok(())
 }
@@ -77,12 +75,10 @@ fn show_kind(stdout: Stdout, b: &[u16], frames: usize, word: usize) -> io::Resul
 // The answers for kind 0 in each line.
 fn show_kinds(stdout: Stdout, b: &[u16], frames: usize) -> io::Result<()> {
     let mut from = 0;
-    let mut n = 0;
-    while n < frames {
+    for n in 0..frames {
         let to = end_of(b, n, from);
         show_kind(stdout, b, frames, from)?;
         from = to;
-        n += 1;
     }
     Ok(())
 }
@@ -107,10 +103,8 @@ fn show_byte(stdout: Stdout, b: u8) -> io::Result<()> {
 }
 
 fn show_bytes(stdout: Stdout, s: &[u8]) -> io::Result<()> {
-    let mut i = 0;
-    while i < s.len() {
+    for i in 0..s.len() {
         show_byte(stdout, s[i])?;
-        i += 1;
     }
     Ok(())
 }

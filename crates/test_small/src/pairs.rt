@@ -56,10 +56,8 @@ fn of_pair(k: usize, p: &[u16], x: &[u16]) -> u8 {
 // An update against every read, and a line feed.
 fn signs(p: &[u16], x: &[u16]) -> [u8; PATTERNS + 1] {
     let mut row = [10u8; PATTERNS + 1];
-    let mut k = 0;
-    while k < PATTERNS {
+    for k in 0..PATTERNS {
         row[k] = of_pair(k, p, x);
-        k += 1;
     }
     row
 }
@@ -77,10 +75,8 @@ fn delete_line(stdout: Stdout, k: usize) -> io::Result<()> {
 }
 
 fn deletes(stdout: Stdout) -> io::Result<()> {
-    let mut k = SINGLE;
-    while k < PATTERNS {
+    for k in SINGLE..PATTERNS {
         delete_line(stdout, k)?;
-        k += 1;
     }
     Ok(())
 }
@@ -94,10 +90,8 @@ fn insert_line(stdout: Stdout, p: &[u16], x: usize) -> io::Result<()> {
 
 // Every insert at p.
 fn inserts_at(stdout: Stdout, p: &[u16]) -> io::Result<()> {
-    let mut x = 0;
-    while x < INSERTED {
+    for x in 0..INSERTED {
         insert_line(stdout, p, x)?;
-        x += 1;
     }
     Ok(())
 }
@@ -110,10 +104,8 @@ fn insert_lines(stdout: Stdout, k: usize) -> io::Result<()> {
 }
 
 fn inserts(stdout: Stdout) -> io::Result<()> {
-    let mut k = 0;
-    while k < PATTERNS {
+    for k in 0..PATTERNS {
         insert_lines(stdout, k)?;
-        k += 1;
     }
     Ok(())
 }

@@ -43,14 +43,12 @@ pub(crate) struct Draft {
 // Words behind those written, if there is room.
 fn appended(b: &mut [u16], at: usize, t: &[u16]) -> usize {
     let mut end = at;
-    let mut i = 0;
-    while i < t.len() {
+    for i in 0..t.len() {
         if b.len() <= end {
             return end;
         }
         b[end] = t[i];
         end += 1;
-        i += 1;
     }
     end
 }
@@ -109,10 +107,8 @@ fn framed(b: &mut [u16], d: Draft) -> Draft {
 // So many frames.
 pub(crate) fn drafted(b: &mut [u16], frames: usize, state: u64) -> Draft {
     let mut d = Draft { at: 0, state };
-    let mut k = 0;
-    while k < frames {
+    for k in 0..frames {
         d = framed(b, d);
-        k += 1;
     }
     d
 }
@@ -168,10 +164,8 @@ fn show_plans(stdout: Stdout, b: &[u16], frames: usize) -> io::Result<()> {
 }
 
 fn show_words(stdout: Stdout, t: &[u16]) -> io::Result<()> {
-    let mut i = 0;
-    while i < t.len() {
+    for i in 0..t.len() {
         show_word(stdout, t[i])?;
-        i += 1;
     }
     Ok(())
 }
@@ -188,10 +182,8 @@ fn batch_from(stdout: Stdout, state: u64) -> io::Result<u64> {
 
 pub(crate) fn table(stdout: Stdout) -> io::Result<()> {
     let mut s = SEED;
-    let mut n = 0;
-    while n < BATCHES {
+    for n in 0..BATCHES {
         s = batch_from(stdout, s)?;
-        n += 1;
     }
     Ok(())
 }

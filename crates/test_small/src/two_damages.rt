@@ -85,10 +85,8 @@ fn kind_at(i: usize, first: Damage, second: Damage) -> usize {
 // Writes a batch with two words damaged, or one where both damages are of one word; its words.
 pub(crate) fn written(out: &mut [u16], b: &[u16], first: Damage, second: Damage) -> usize {
     let mut at = 0;
-    let mut i = 0;
-    while i < b.len() {
+    for i in 0..b.len() {
         at = harmed(out, at, word_of(b, i), kind_at(i, first, second));
-        i += 1;
     }
     at
 }
@@ -113,10 +111,8 @@ fn after(b: &[u16], first: Damage, second: Damage, d: u64) -> u64 {
 // One damage with every one of a later word.
 fn with_each(b: &[u16], first: Damage, word: usize, d: u64) -> u64 {
     let mut sum = d;
-    let mut kind = 0;
-    while kind < DAMAGES {
+    for kind in 0..DAMAGES {
         sum = after(b, first, Damage { word, kind }, sum);
-        kind += 1;
     }
     sum
 }
@@ -124,10 +120,8 @@ fn with_each(b: &[u16], first: Damage, word: usize, d: u64) -> u64 {
 // Every damage of a word with every one of a later word.
 fn digest_of(b: &[u16], word: usize, later: usize) -> u64 {
     let mut sum = 0;
-    let mut kind = 0;
-    while kind < DAMAGES {
+    for kind in 0..DAMAGES {
         sum = with_each(b, Damage { word, kind }, later, sum);
-        kind += 1;
     }
     sum
 }
@@ -142,21 +136,16 @@ fn line(stdout: Stdout, name: usize, b: &[u16], word: usize, later: usize) -> io
 
 // A word with each from a later one on.
 fn lines_of(stdout: Stdout, name: usize, b: &[u16], word: usize, from: usize) -> io::Result<()> {
-    let mut later = from;
-    while later < b.len() {
+    for later in from..b.len() {
         line(stdout, name, b, word, later)?;
-        later += 1;
     }
     Ok(())
 }
 
 // Every two words of a batch.
 pub(crate) fn lines(stdout: Stdout, name: usize, b: &[u16]) -> io::Result<()> {
-    let mut word = 0;
-    while word < b.len() {
-        let next = word + 1;
-        lines_of(stdout, name, b, word, next)?;
-        word = next;
+    for word in 0..b.len() {
+        lines_of(stdout, name, b, word, word + 1)?;
     }
     Ok(())
 }

@@ -101,8 +101,7 @@ fn at(i: usize, part: usize) -> usize {
 // Every step.
 fn each_step(q: Pair, kind: Kind, n: Verdict, sums: Sums) -> Sums {
     let mut s = sums;
-    let mut i = 0;
-    while i < STEPS {
+    for i in 0..STEPS {
         s = changed(
             q,
             Change {
@@ -112,7 +111,6 @@ fn each_step(q: Pair, kind: Kind, n: Verdict, sums: Sums) -> Sums {
             n,
             s,
         );
-        i += 1;
     }
     s
 }
@@ -120,8 +118,7 @@ fn each_step(q: Pair, kind: Kind, n: Verdict, sums: Sums) -> Sums {
 // Every node to come.
 fn each_node(q: Pair, n: Verdict, sums: Sums) -> Sums {
     let mut s = sums;
-    let mut choice = 0;
-    while choice < HANGS {
+    for choice in 0..HANGS {
         s = changed(
             q,
             Change {
@@ -131,7 +128,6 @@ fn each_node(q: Pair, n: Verdict, sums: Sums) -> Sums {
             n,
             s,
         );
-        choice += 1;
     }
     s
 }
@@ -154,10 +150,8 @@ fn of_pair(q: Pair, kind: Kind, s: Sums) -> Sums {
 // An update with every read.
 fn reads(update: usize, tree: usize, kind: Kind, sums: Sums) -> Sums {
     let mut s = sums;
-    let mut read = 0;
-    while read < PATTERNS {
+    for read in 0..PATTERNS {
         s = of_pair(Pair { read, update, tree }, kind, s);
-        read += 1;
     }
     s
 }
@@ -165,10 +159,8 @@ fn reads(update: usize, tree: usize, kind: Kind, sums: Sums) -> Sums {
 // Every delete.
 fn deletes(kind: Kind) -> Sums {
     let mut s = nothing();
-    let mut update = SINGLE;
-    while update < PATTERNS {
+    for update in SINGLE..PATTERNS {
         s = reads(update, NO_TREE, kind, s);
-        update += 1;
     }
     s
 }
@@ -176,10 +168,8 @@ fn deletes(kind: Kind) -> Sums {
 // Every insert at a pattern.
 fn trees(update: usize, kind: Kind, sums: Sums) -> Sums {
     let mut s = sums;
-    let mut tree = 0;
-    while tree < SMALL {
+    for tree in 0..SMALL {
         s = reads(update, tree, kind, s);
-        tree += 1;
     }
     s
 }
@@ -187,10 +177,8 @@ fn trees(update: usize, kind: Kind, sums: Sums) -> Sums {
 // Every insert.
 fn inserts(kind: Kind) -> Sums {
     let mut s = nothing();
-    let mut update = 0;
-    while update < PATTERNS {
+    for update in 0..PATTERNS {
         s = trees(update, kind, s);
-        update += 1;
     }
     s
 }

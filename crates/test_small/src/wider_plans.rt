@@ -102,10 +102,8 @@ fn word_at(b: &[u16], i: usize) -> u16 {
 // The batch, with room behind it.
 fn copied(b: &[u16]) -> [u16; WORDS] {
     let mut t = [0u16; WORDS];
-    let mut i = 0;
-    while i < WORDS {
+    for i in 0..WORDS {
         t[i] = word_at(b, i);
-        i += 1;
     }
     t
 }
@@ -134,10 +132,8 @@ fn widened(node: bool, narrow: &[u16], b: &[u16], r: Read, i: usize, s: Sums) ->
 // Every word of a read.
 fn each_word(node: bool, narrow: &[u16], b: &[u16], r: Read, sums: Sums) -> Sums {
     let mut s = sums;
-    let mut i = 0;
-    while i < READ_WORDS {
+    for i in 0..READ_WORDS {
         s = widened(node, narrow, b, r, i, s);
-        i += 1;
     }
     s
 }
@@ -164,10 +160,8 @@ fn of_frame(node: bool, narrow: &[u16], b: &[u16], frame: usize, w: Walk) -> Wal
 // Every read of a batch of so many frames.
 fn each_frame(node: bool, narrow: &[u16], b: &[u16], frames: usize, sums: Sums) -> Sums {
     let mut w = Walk { at: 0, sums };
-    let mut f = 0;
-    while f < frames {
+    for f in 0..frames {
         w = of_frame(node, narrow, b, f, w);
-        f += 1;
     }
     w.sums
 }
@@ -196,10 +190,8 @@ fn batches(node: bool) -> Sums {
         state: SEED,
         sums: nothing(),
     };
-    let mut n = 0;
-    while n < BATCHES {
+    for n in 0..BATCHES {
         r = batch_from(node, r);
-        n += 1;
     }
     r.sums
 }

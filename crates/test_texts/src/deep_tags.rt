@@ -122,10 +122,8 @@ fn put_last(out: &mut [u8], at: usize, level: usize, w: Way) -> usize {
 // The start tags from a level to another, which is not among them.
 fn put_starts(out: &mut [u8], at: usize, from: usize, to: usize) -> usize {
     let mut end = at;
-    let mut level = from;
-    while level < to {
+    for level in from..to {
         end = put_start(out, end, level);
-        level += 1;
     }
     end
 }
@@ -133,9 +131,7 @@ fn put_starts(out: &mut [u8], at: usize, from: usize, to: usize) -> usize {
 // The end tags of n levels below a level, from the innermost on.
 fn put_ends(out: &mut [u8], at: usize, from: usize, n: usize, w: Way) -> usize {
     let mut end = at;
-    let mut left = n;
-    while 0 < left {
-        left -= 1;
+    for left in (0..n).rev() {
         end = put_last(out, end, from % 65536 + left % 65536, w);
     }
     end
@@ -225,18 +221,15 @@ fn whole(stdout: Stdout, down: usize, again: usize) -> io::Result<()> {
 
 fn cuts(stdout: Stdout, down: usize, again: usize) -> io::Result<()> {
     show_name(stdout, b"deep-cut ", down, again)?;
-    let mut k = 0;
-    while k < CUTS {
+    for k in 0..CUTS {
         show_cut(stdout, down, again, k)?;
-        k += 1;
     }
     text(stdout, b"\n")
 }
 
 fn ends(stdout: Stdout, name: &[u8], down: usize, again: usize, damage: usize) -> io::Result<()> {
     show_name(stdout, name, down, again)?;
-    let mut k = 0;
-    while k < LEVELS {
+    for k in 0..LEVELS {
         show_way(
             stdout,
             Way {
@@ -246,7 +239,6 @@ fn ends(stdout: Stdout, name: &[u8], down: usize, again: usize, damage: usize) -
                 damage,
             },
         )?;
-        k += 1;
     }
     text(stdout, b"\n")
 }

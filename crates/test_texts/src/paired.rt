@@ -115,10 +115,8 @@ fn with_pattern(i: usize, j: usize, room: usize, d: u64) -> u64 {
 // Every list with every text; the buffer changes fastest.
 fn texts() -> u64 {
     let mut d = 0;
-    let mut k = 0;
-    while k < ROWS * ROWS * ROOMS {
+    for k in 0..ROWS * ROWS * ROOMS {
         d = with_text(k / ROOMS / ROWS, k / ROOMS % ROWS, k % ROOMS, d);
-        k += 1;
     }
     d
 }
@@ -126,10 +124,8 @@ fn texts() -> u64 {
 // Every list with every pattern.
 fn patterns() -> u64 {
     let mut d = 0;
-    let mut k = 0;
-    while k < ROWS * ROWS * ROOMS {
+    for k in 0..ROWS * ROWS * ROOMS {
         d = with_pattern(k / ROOMS / ROWS, k / ROOMS % ROWS, k % ROOMS, d);
-        k += 1;
     }
     d
 }

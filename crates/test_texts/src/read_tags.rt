@@ -105,10 +105,8 @@ fn whole_row(n: usize, k: usize, sums: Sums) -> Sums {
 // Every start of a text but all of it.
 fn starts(s: &[u8], sums: Sums) -> Sums {
     let mut t = sums;
-    let mut i = 0;
-    while i < s.len() {
+    for i in 0..s.len() {
         t = with_rooms(front_bytes(s, i), ROW_ROOM, t);
-        i += 1;
     }
     t
 }
@@ -191,10 +189,8 @@ fn text_of(part: usize, n: usize, k: usize, sums: Sums) -> Sums {
 // Every text of a line.
 fn texts(part: usize, n: usize, count: usize) -> Sums {
     let mut s = no_calls();
-    let mut k = 0;
-    while k < count {
+    for k in 0..count {
         s = text_of(part, n, k, s);
-        k += 1;
     }
     s
 }

@@ -37,15 +37,13 @@ fn show_run(stdout: Stdout, name: &[u8], from: usize, to: usize, a: usize) -> io
 fn lines_of(stdout: Stdout, name: &[u8], place: usize) -> io::Result<()> {
     let mut from = 0;
     let mut last = answer(place, 0);
-    let mut b = 1;
-    while b < 256 {
+    for b in 1..256 {
         let a = answer(place, (b % 256) as u8);
         if a != last {
             show_run(stdout, name, from, earlier_than(b, 0), last)?;
             from = b;
             last = a;
         }
-        b += 1;
     }
     show_run(stdout, name, from, 255, last)
 }

@@ -38,25 +38,21 @@ fn show_run(
 fn lines_at(stdout: Stdout, name: &[u8], s: &[u8], at: usize) -> io::Result<()> {
     let mut from = 0;
     let mut last = answer(s, at, 0);
-    let mut b = 1;
-    while b < 256 {
+    for b in 1..256 {
         let a = answer(s, at, (b % 256) as u8);
         if a != last {
             show_run(stdout, name, at, from, earlier_than(b, 0), last)?;
             from = b;
             last = a;
         }
-        b += 1;
     }
     show_run(stdout, name, at, from, 255, last)
 }
 
 // Every place, and behind the last.
 fn lines_of(stdout: Stdout, name: &[u8], s: &[u8]) -> io::Result<()> {
-    let mut at = 0;
-    while at < s.len() {
+    for at in 0..s.len() {
         lines_at(stdout, name, s, at)?;
-        at += 1;
     }
     lines_at(stdout, name, s, s.len())
 }

@@ -39,11 +39,9 @@ fn put_tag(out: &mut [u8], at: usize, kind: usize) -> usize {
 pub(crate) fn tag_row(k: usize, n: usize, out: &mut [u8]) -> usize {
     let mut at = 0;
     let mut rest = k;
-    let mut i = 0;
-    while i < n {
+    for i in 0..n {
         at = put_tag(out, at, first(rest, KINDS));
         rest = behind(rest, KINDS);
-        i += 1;
     }
     at
 }
@@ -95,11 +93,9 @@ fn tag_at(s: &[u8], tag: usize, i: usize) -> usize {
 pub(crate) fn long_text(s: &[u8], out: &mut [u8]) -> usize {
     let mut at = 0;
     let mut tag = 0;
-    let mut i = 0;
-    while i < s.len() {
+    for i in 0..s.len() {
         tag = tag_at(s, tag, i);
         at = put_long(out, at, s, tag, i);
-        i += 1;
     }
     at
 }

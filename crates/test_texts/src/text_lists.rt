@@ -39,10 +39,8 @@ fn list_of(k: usize, length: usize, t: Tally) -> Tally {
 // Every list of so many bytes.
 fn lists_of(length: usize, count: usize) -> Tally {
     let mut t = nothing();
-    let mut k = 0;
-    while k < count {
+    for k in 0..count {
         t = list_of(k, length, t);
-        k += 1;
     }
     t
 }

@@ -37,10 +37,8 @@ fn with_room(p: &[u16], room: usize, d: u64) -> u64 {
 // Every room.
 fn rooms(p: &[u16], d: u64) -> u64 {
     let mut sum = d;
-    let mut room = 0;
-    while room <= ROOM {
+    for room in 0..=ROOM {
         sum = with_room(p, room, sum);
-        room += 1;
     }
     sum
 }
@@ -101,10 +99,8 @@ fn pattern_of(k: usize, length: usize, t: Tally) -> Tally {
 // Every pattern of so many words.
 fn patterns_of(length: usize, count: usize) -> Tally {
     let mut t = nothing();
-    let mut k = 0;
-    while k < count {
+    for k in 0..count {
         t = pattern_of(k, length, t);
-        k += 1;
     }
     t
 }

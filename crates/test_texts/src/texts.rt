@@ -96,10 +96,8 @@ fn text_of(k: usize, length: usize, t: Tally) -> Tally {
 // Every text of so many bytes.
 fn texts_of(length: usize, count: usize) -> Tally {
     let mut t = nothing();
-    let mut k = 0;
-    while k < count {
+    for k in 0..count {
         t = text_of(k, length, t);
-        k += 1;
     }
     t
 }

@@ -112,10 +112,8 @@ fn table_of(part: usize, n: usize, k: usize, s: Sums) -> Sums {
 // Every table of a line.
 fn tables(part: usize, n: usize, count: usize) -> Sums {
     let mut s = no_calls();
-    let mut k = 0;
-    while k < count {
+    for k in 0..count {
         s = table_of(part, n, k, s);
-        k += 1;
     }
     s
 }
@@ -143,10 +141,8 @@ fn show_tree(stdout: Stdout, name: &[u8], kinds: usize, n: usize, k: usize) -> i
 
 // The lines of every one.
 fn show_trees(stdout: Stdout, name: &[u8], kinds: usize, n: usize, count: usize) -> io::Result<()> {
-    let mut k = 0;
-    while k < count {
+    for k in 0..count {
         show_tree(stdout, name, kinds, n, k)?;
-        k += 1;
     }
     Ok(())
 }

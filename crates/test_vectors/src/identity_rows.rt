@@ -42,10 +42,8 @@ pub(crate) fn numbers(line: &[u8], i: &mut [u32]) -> usize {
         return 0;
     }
     let mut s = Reading { count: 0, value: 0 };
-    let mut k = 2;
-    while k < line.len() {
+    for k in 2..line.len() {
         s = taken(s, line[k], i);
-        k += 1;
     }
     put(i, s.count, s.value)
 }
@@ -60,10 +58,8 @@ pub(crate) fn number(line: &[u8]) -> u32 {
 // 0, 1, 2 and so on, so many of them as there is room for; how many.
 pub(crate) fn counted(i: &mut [u32], n: usize) -> usize {
     let mut end = 0;
-    let mut k = 0;
-    while k < n {
+    for k in 0..n {
         end = put(i, end, k as u64);
-        k += 1;
     }
     end
 }

@@ -45,10 +45,8 @@ fn again(t: &mut [u16], k: usize, size: usize) -> usize {
 // So many numbers more, as they stand before; how many are written then.
 fn copied(t: &mut [u16], n: usize, size: usize) -> usize {
     let mut k = n;
-    let mut i = 0;
-    while i < size {
+    for i in 0..size {
         k = again(t, k, size);
-        i += 1;
     }
     k
 }
@@ -57,10 +55,8 @@ fn copied(t: &mut [u16], n: usize, size: usize) -> usize {
 fn repeated(t: &mut [u16], from: usize, n: usize, times: usize) -> usize {
     let size = before(n, from);
     let mut k = n;
-    let mut i = 1;
-    while i < times {
+    for i in 1..times {
         k = copied(t, k, size);
-        i += 1;
     }
     k
 }
@@ -124,10 +120,8 @@ pub(crate) fn words(line: &[u8], t: &mut [u16]) -> usize {
         value: 0,
         times: false,
     };
-    let mut i = 2;
-    while i < line.len() {
+    for i in 2..line.len() {
         s = taken(s, line[i], t);
-        i += 1;
     }
     ended(s, t)
 }
@@ -149,10 +143,8 @@ fn narrow(t: &[u16], i: usize) -> u8 {
 // The first so many words of a table, at the front of a row; how many.
 fn narrowed(t: &[u16], n: usize, m: &mut [u8]) -> usize {
     let mut k = 0;
-    let mut i = 0;
-    while i < n {
+    for i in 0..n {
         k = put_byte(m, k, narrow(t, i));
-        i += 1;
     }
     k
 }

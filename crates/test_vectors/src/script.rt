@@ -110,10 +110,8 @@ fn spaced(byte: u8, space: u8) -> u8 {
 // Bytes behind those in use, another in place of each space; how many are in use then.
 fn append(m: &mut [u8], n: usize, s: &[u8], space: u8) -> usize {
     let mut end = n;
-    let mut i = 0;
-    while i < s.len() {
+    for i in 0..s.len() {
         end = put_byte(m, end, spaced(s[i], space));
-        i += 1;
     }
     end
 }
@@ -491,10 +489,7 @@ fn each(
         n: 0,
     };
     let mut from = 0;
-    let mut k = 0;
-    while k < input.len() {
-        let at = k;
-        k += 1;
+    for at in 0..input.len() {
         s = obeyed(stdout, line_at(input, from, at), r, p, x, t, l, m, y, i, s)?;
         from = start(input, from, at);
     }

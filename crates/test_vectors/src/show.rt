@@ -67,10 +67,8 @@ fn word_at(stdout: Stdout, t: &[u16], i: usize) -> io::Result<()> {
 // The words of a table.
 pub(crate) fn table(stdout: Stdout, name: &[u8], t: &[u16]) -> io::Result<()> {
     text(stdout, name)?;
-    let mut i = 0;
-    while i < t.len() {
+    for i in 0..t.len() {
         word_at(stdout, t, i)?;
-        i += 1;
     }
     text(stdout, b"\n")
 }
@@ -82,10 +80,8 @@ fn byte_at(stdout: Stdout, m: &[u8], i: usize) -> io::Result<()> {
 // The bytes of a row.
 pub(crate) fn row(stdout: Stdout, name: &[u8], m: &[u8]) -> io::Result<()> {
     text(stdout, name)?;
-    let mut i = 0;
-    while i < m.len() {
+    for i in 0..m.len() {
         byte_at(stdout, m, i)?;
-        i += 1;
     }
     text(stdout, b"\n")
 }
@@ -105,10 +101,8 @@ fn identity_at(stdout: Stdout, i: &[u32], k: usize) -> io::Result<()> {
 // The identities of a row.
 pub(crate) fn identities(stdout: Stdout, name: &[u8], i: &[u32]) -> io::Result<()> {
     text(stdout, name)?;
-    let mut k = 0;
-    while k < i.len() {
+    for k in 0..i.len() {
         identity_at(stdout, i, k)?;
-        k += 1;
     }
     text(stdout, b"\n")
 }

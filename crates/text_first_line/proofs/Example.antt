@@ -1,10 +1,7 @@
 -- The two mode lines in bytes.
 use mathlib.Core.Path.{◌≡◌, refl}
-use mathlib.Core.List.{List, [], ◌∷◌}
 use lib.ListN.{get_or}
-use Prim.Native.Nat.{ℕ}
-use Rattle.tables.specs.Checks.{each}
-use Rattle.tables.specs.declared.refusal.Checked.TheVariants.{Fine}
+use Rattle.tables.specs.Checks.{each, Fine}
 use Rattle.selection.specs.Lists.{tab}
 use Rattle.batch_mode.specs.Modes.{mode_check, mode_of}
 use Rattle.batch_mode.specs.declared.Mode.TheVariants.{Node, Deep}

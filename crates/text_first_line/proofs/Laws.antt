@@ -1,4 +1,6 @@
 -- The first line is one thing; how long a mode line is, and what one is refused for.
+use Rattle.std.specs.Prelude.{Option, Some, None, Result, Ok, Err}
+use Rattle.batch_mode.specs.declared.Mode.{Mode}
 use Prim.Native.Nat.{ℕ, ◌-◌, ◌≤◌}
 use mathlib.Core.Path.{◌≡◌, refl, sym, ◌∙◌, ap}
 use mathlib.Core.Bool.{◌||◌}
@@ -8,16 +10,14 @@ use native.Mathlib.Omega.{arith}
 use lib.Dec.{eqb, ltb, leb}
 use lib.ListN.{length, get_or, drop, length-drop}
 use borrow.Author.Tests.{ltb-true, leb-true}
-use Rattle.tables.specs.Checks.{test, refuse}
+use Rattle.tables.specs.Checks.{test, refuse, Fine}
+use Rattle.tables.specs.Refusals.{numbered}
 use Rattle.tables.specs.declared.refusal.Refusal.{Refusal}
-use Rattle.tables.specs.declared.refusal.Checked.TheVariants as checked
 use Rattle.tables.proofs.Accepted.{held, then_first, then_second}
 use Rattle.tables.proofs.Refused.{test_why, then_why}
 use Rattle.batch_mode.specs.Modes.{mode_check}
 use Rattle.text_first_line.specs.FirstLine.{line_end, line_at, first_words, ModeLine, mode_line_check}
 use Rattle.text_first_line.specs.Answer.{FirstIs}
-use Rattle.text_first_line.specs.declared.First.{First}
-use Rattle.text_first_line.specs.declared.First.TheVariants as first
 use Rattle.text_first_line.proofs.Lines.{line_long, formed_long}
 
 -- the rest of an input begins at one place
@@ -27,22 +27,22 @@ drop_one s a b h l e =
     omega arith
 
 -- two answers that meet the promise are the same
-pub first_one : (s : List ℕ) (x y : First) → FirstIs s x → FirstIs s y → x ≡ y
-first_one s first.Frames first.Frames f g = refl
-first_one s first.Frames (first.Named m at) f g = absurd (f g.0)
-first_one s first.Frames (first.Refused r) f g = absurd (f g.0)
-first_one s (first.Named m at) first.Frames f g = absurd (g f.0)
-first_one s (first.Named m at) (first.Named n from) f g =
+pub first_one : (s : List ℕ) (x y : Result (Option (Mode × ℕ)) Refusal) → FirstIs s x → FirstIs s y → x ≡ y
+first_one s (Ok None) (Ok None) f g = refl
+first_one s (Ok None) (Ok (Some (m, at))) f g = absurd (f g.0)
+first_one s (Ok None) (Err r) f g = absurd (f g.0)
+first_one s (Ok (Some (m, at))) (Ok None) f g = absurd (g f.0)
+first_one s (Ok (Some (m, at))) (Ok (Some (n, from))) f g =
     let mode : m ≡ n = f.2 ∙ sym g.2 in
     let place : at ≡ from = drop_one s at from f.3 g.3 (f.4 ∙ sym g.4) in
     rw (mode, place)
-first_one s (first.Named m at) (first.Refused r) f g = let x = f.1 in let y = g.1 in cc
-first_one s (first.Refused r) first.Frames f g = absurd (g f.0)
-first_one s (first.Refused r) (first.Named m at) f g = let x = f.1 in let y = g.1 in cc
-first_one s (first.Refused q) (first.Refused r) f g = let x = f.1 in let y = g.1 in cc
+first_one s (Ok (Some (m, at))) (Err r) f g = let x = f.1 in let y = g.1 in cc
+first_one s (Err r) (Ok None) f g = absurd (g f.0)
+first_one s (Err r) (Ok (Some (m, at))) f g = let x = f.1 in let y = g.1 in cc
+first_one s (Err q) (Err r) f g = let x = f.1 in let y = g.1 in cc
 
 -- a mode line that is accepted has two words
-mode_line_words : (ws : List ℕ) → mode_line_check ws ≡ checked.Fine → length ws ≡ 2
+mode_line_words : (ws : List ℕ) → mode_line_check ws ≡ Fine → length ws ≡ 2
 unfolding mode_line_check
 mode_line_words ws e =
     let some = ltb-true 1 (length ws) (held (ltb 1 (length ws)) _ (then_first (test (ltb 1 (length ws)) (refuse 9 6 1)) _ e)) in
@@ -51,15 +51,15 @@ mode_line_words ws e =
     omega arith
 
 -- so it has eight digits
-pub mode_line_long : (s : List ℕ) → ModeLine s → mode_line_check (first_words s) ≡ checked.Fine → line_end s 0 ≡ 8
+pub mode_line_long : (s : List ℕ) → ModeLine s → mode_line_check (first_words s) ≡ Fine → line_end s 0 ≡ 8
 mode_line_long s mode e =
     let long = line_long s 0 (omega arith) in
     let digits = formed_long (line_at s 0) 1 mode.formed in
     omega (arith, mode_line_words (first_words s) e)
 
 -- a mode line is refused by 9 at the word that is missing or left over, or by 8 at its mode
-pub mode_refused_numbers : (ws : List ℕ) {r : Refusal} → mode_line_check ws ≡ checked.Refused r
-    → (r ≡ record { number = 9; table = 6; place = 1 }) ⊎ ((r ≡ record { number = 9; table = 6; place = 2 }) ⊎ (r ≡ record { number = 8; table = 6; place = 1 }))
+pub mode_refused_numbers : (ws : List ℕ) {r : Refusal} → mode_line_check ws ≡ Err r
+    → (r ≡ record { reason = numbered 9; table = 6; place = 1 }) ⊎ ((r ≡ record { reason = numbered 9; table = 6; place = 2 }) ⊎ (r ≡ record { reason = numbered 8; table = 6; place = 1 }))
 unfolding mode_line_check mode_check
 mode_refused_numbers ws e =
     then_why (test (ltb 1 (length ws)) (refuse 9 6 1)) _

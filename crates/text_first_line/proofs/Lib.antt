@@ -1,6 +1,5 @@
 -- Laws of the first line.
 pub mod Lines
-pub mod Branches
 pub mod Looking
 pub mod Laws
 pub mod Example

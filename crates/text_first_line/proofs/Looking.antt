@@ -1,4 +1,6 @@
 -- From the words of the first line to what it is.
+use Rattle.std.specs.Prelude.{Option, Some, None, Result, Ok, Err}
+use Rattle.batch_mode.specs.declared.Mode.{Mode}
 use Prim.Native.Nat.{ℕ, ◌-◌, ◌/◌, ◌≤◌}
 use mathlib.Core.Path.{◌≡◌, refl, sym, ◌∙◌}
 use mathlib.Core.List.{List}
@@ -7,9 +9,8 @@ use native.Mathlib.Omega.{arith}
 use lib.ListN.{length, get_or, take, drop, length-append}
 use lib.Seq.{take_at}
 use Rattle.tables.specs.Limits.{digit_limit}
-use Rattle.tables.specs.Checks.{output_check}
+use Rattle.tables.specs.Checks.{output_check, Fine}
 use Rattle.tables.specs.declared.refusal.Refusal.{Refusal}
-use Rattle.tables.specs.declared.refusal.Checked.TheVariants as checked
 use Rattle.tables.proofs.Accepted.{never, then_first, then_both}
 use Rattle.check_size.proofs.Branches.{output_long}
 use Rattle.batch_parts.specs.Parts.{part}
@@ -17,13 +18,9 @@ use Rattle.text_digits.proofs.Returning.{length-words_of}
 use Rattle.text_parts.proofs.Finding.{next_most}
 use Rattle.text_line_in.specs.Lines.{line_check, ReadAs}
 use Rattle.text_line_in.proofs.Promise.{line_short}
-use Rattle.outcomes.specs.declared.texts.Parsed.{Parsed}
-use Rattle.outcomes.specs.declared.texts.Parsed.TheVariants as parsed
 use Rattle.text_first_line.specs.FirstLine.{line_end, line_at, first_words, ModeLine}
 use Rattle.text_first_line.specs.Answer.{FirstIs}
 use Rattle.text_first_line.specs.Looking.{Says, Behind}
-use Rattle.text_first_line.specs.declared.First.{First}
-use Rattle.text_first_line.specs.declared.First.TheVariants as first
 
 module _ (s : List ℕ) {end : ℕ} (is : end ≡ line_end s 0) where
   pub end_within : end ≤ length s
@@ -32,22 +29,22 @@ module _ (s : List ℕ) {end : ℕ} (is : end ≡ line_end s 0) where
   line_is : part s 0 (end - 0) ≡ line_at s 0
   line_is = rw is refl
 
-  module _ (before : List ℕ) (room : length before ≡ digit_limit / 4) (after : List ℕ) (got : Parsed) (e : ReadAs (part s 0 (end - 0)) 1 before after got) where
+  module _ (before : List ℕ) (room : length before ≡ digit_limit / 4) (after : List ℕ) (got : Result ℕ Refusal) (e : ReadAs (part s 0 (end - 0)) 1 before after got) where
     -- the room is enough for every well-formed line
-    room_fine : line_check (line_at s 0) 1 ≡ checked.Fine → output_check (length (line_at s 0) / 4) (length before) ≡ checked.Fine
+    room_fine : line_check (line_at s 0) 1 ≡ Fine → output_check (length (line_at s 0) / 4) (length before) ≡ Fine
     room_fine fine = sym (output_long (length (line_at s 0) / 4) (length before) (omega (arith, line_short (line_at s 0) 1 fine, room)))
 
     -- so a line that is not read is not well-formed
-    pub not_read : {r : Refusal} → got ≡ parsed.Refused r → ModeLine s → ⊥
+    pub not_read : {r : Refusal} → got ≡ Err r → ModeLine s → ⊥
     not_read {r} told mode =
-        let why : ReadAs (line_at s 0) 1 before after (parsed.Refused r) = rw (told, line_is) at e in
+        let why : ReadAs (line_at s 0) 1 before after (Err r) = rw (told, line_is) at e in
         never why.0 (then_both (line_check (line_at s 0) 1) _ mode.formed (room_fine mode.formed))
 
-    module _ {n : ℕ} (told : got ≡ parsed.Words n) where
-      read : ReadAs (line_at s 0) 1 before after (parsed.Words n)
+    module _ {n : ℕ} (told : got ≡ Ok n) where
+      read : ReadAs (line_at s 0) 1 before after (Ok n)
       read = rw (told, line_is) at e
 
-      formed : line_check (line_at s 0) 1 ≡ checked.Fine
+      formed : line_check (line_at s 0) 1 ≡ Fine
       formed = then_first (line_check (line_at s 0) 1) (output_check (length (line_at s 0) / 4) (length before)) read.0
 
       words_long : length (first_words s) ≡ n
@@ -60,14 +57,14 @@ module _ (s : List ℕ) {end : ℕ} (is : end ≡ line_end s 0) where
       words_are = rw (sub-zero n, read.2) (take_at (first_words s) (drop n before) n words_long)
 
       -- what the words say, the line is
-      pub first_is : {at : ℕ} → Behind s end at → (r : First) → Says (take (n - 0) (drop 0 after)) at r → FirstIs s r
+      pub first_is : {at : ℕ} → Behind s end at → (r : Result (Option (Mode × ℕ)) Refusal) → Says (take (n - 0) (drop 0 after)) at r → FirstIs s r
       first_is {at} b r says = go r (rw words_are at says)
         where
           mode_line : get_or (first_words s) 0 0 ≡ 4 → ModeLine s
           mode_line four = record { formed = formed; kind = four }
 
-          go : (r : First) → Says (first_words s) at r → FirstIs s r
-          go first.Frames other = λ mode. other mode.kind
-          go (first.Named m from) e =
+          go : (r : Result (Option (Mode × ℕ)) Refusal) → Says (first_words s) at r → FirstIs s r
+          go (Ok None) other = λ mode. other mode.kind
+          go (Ok (Some (m, from))) e =
               (mode_line e.0, e.1, e.2, rw e.3 b.within, rw (e.3, ← is) b.same)
-          go (first.Refused r) e = (mode_line e.0, e.1)
+          go (Err r) e = (mode_line e.0, e.1)

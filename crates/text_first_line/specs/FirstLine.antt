@@ -1,8 +1,6 @@
 -- The lines of an input, and its first line, which may name the mode.
 use Rattle.std.specs.Prelude.{ℕ, ◌+◌, ◌-◌, ◌≡◌, List, [], ◌∷◌, ltb, leb, length, get_or, drop}
-use Rattle.tables.specs.Checks.{◌then◌, test, refuse}
-use Rattle.tables.specs.declared.refusal.Checked.{Checked}
-use Rattle.tables.specs.declared.refusal.Checked.TheVariants.{Fine}
+use Rattle.tables.specs.Checks.{◌then◌, test, refuse, Checked, Fine}
 use Rattle.batch_parts.specs.Parts.{part}
 use Rattle.batch_mode.specs.Modes.{mode_check}
 use Rattle.text_digits.specs.Digits.{words_of}

@@ -6,9 +6,7 @@ use native.Mathlib.Nat.{pos_of_ne-zero}
 use lib.ListN.{length, get_or}
 use borrow.Author.Tests.{lt-ltb, le-leb, lt-leb, ne_eqb, eq-eqb}
 use Rattle.tables.specs.Limits.{digit_limit}
-use Rattle.tables.specs.declared.refusal.Checked.{Checked}
-use Rattle.tables.specs.declared.refusal.Checked.TheVariants.{Fine}
-use Rattle.tables.specs.Checks.{refuse, each}
+use Rattle.tables.specs.Checks.{refuse, each, Checked, Fine}
 use Rattle.text_digits.specs.Digits.{digit_of, word_at}
 use Rattle.text_line_in.specs.Lines.{character_check, line_check}
 

@@ -1,4 +1,5 @@
 -- From what the checks and the loop give to the promise of reading a line; the promise fixes its answer and its buffer.
+use Rattle.std.specs.Prelude.{Result, Ok, Err}
 use Prim.Native.Nat.{ℕ, ◌/◌, ◌%◌, ◌<◌, ◌≤◌}
 use mathlib.Core.Path.{◌≡◌, refl, sym, ◌∙◌, ap}
 use mathlib.Core.Bool.{◌&&◌}
@@ -9,18 +10,14 @@ use lib.Dec.{eqb, ltb, leb}
 use lib.ListN.{length, get_or, drop}
 use borrow.Author.Tests.{ltb-true, leb-true, eqb-true}
 use Rattle.tables.specs.Limits.{digit_limit}
-use Rattle.tables.specs.Checks.{◌then◌, test, refuse, output_check}
+use Rattle.tables.specs.Checks.{◌then◌, test, refuse, output_check, Checked, Fine}
 use Rattle.tables.specs.declared.refusal.Refusal.{Refusal}
-use Rattle.tables.specs.declared.refusal.Checked.{Checked}
-use Rattle.tables.specs.declared.refusal.Checked.TheVariants.{Fine, Refused}
 use Rattle.tables.proofs.Accepted.{held, then_first, then_second, each_fine, output_room}
 use Rattle.selection.proofs.Runs.{both}
 use Rattle.selection.specs.Lists.{tab}
 use Rattle.text_digits.specs.Digits.{digit_of, word_at, words_of, line_of, Digits}
 use Rattle.text_digits.proofs.Returning.{line_returns}
 use Rattle.text_line_in.specs.Lines.{character_check, line_check, ReadAs}
-use Rattle.outcomes.specs.declared.texts.Parsed.{Parsed}
-use Rattle.outcomes.specs.declared.texts.Parsed.TheVariants as parsed
 
 -- every character of an accepted line is a digit
 pub line_digits : (s : List ℕ) (line : ℕ) → line_check s line ≡ Fine → Digits s
@@ -67,19 +64,19 @@ module _ (s : List ℕ) (line : ℕ) (before : List ℕ) {got : Checked} (e : go
           output_room (length s / 4) (length before) (then_second (line_check s line) (output_check (length s / 4) (length before)) fine),
         )
 
-    pub read_as : {after : List ℕ} → after ≡ tab (word_at s) (length s / 4) ++ drop (length s / 4) before → ReadAs s line before after (parsed.Words (length s / 4))
+    pub read_as : {after : List ℕ} → after ≡ tab (word_at s) (length s / 4) ++ drop (length s / 4) before → ReadAs s line before after (Ok (length s / 4))
     unfolding words_of
     read_as a = (sym e ∙ f, refl, a)
 
-  pub read_refused : {r : Refusal} → got ≡ Refused r → ReadAs s line before before (parsed.Refused r)
+  pub read_refused : {r : Refusal} → got ≡ Err r → ReadAs s line before before (Err r)
   read_refused f = (sym e ∙ f, refl)
 
 -- two answers with their buffers that meet the promise are the same
 module _ (s : List ℕ) (line : ℕ) (before a b : List ℕ) where
-  pub read_one : (x y : Parsed) → ReadAs s line before a x → ReadAs s line before b y → (x ≡ y) × (a ≡ b)
-  read_one (parsed.Refused q) (parsed.Refused r) f g = let e = f.0 in let h = g.0 in ((cc), f.1 ∙ sym g.1)
-  read_one (parsed.Refused q) (parsed.Words n) f g = let e = f.0 in let h = g.0 in ((cc), (cc))
-  read_one (parsed.Words m) (parsed.Refused r) f g = let e = f.0 in let h = g.0 in ((cc), (cc))
-  read_one (parsed.Words m) (parsed.Words n) f g =
+  pub read_one : (x y : Result ℕ Refusal) → ReadAs s line before a x → ReadAs s line before b y → (x ≡ y) × (a ≡ b)
+  read_one (Err q) (Err r) f g = let e = f.0 in let h = g.0 in ((cc), f.1 ∙ sym g.1)
+  read_one (Err q) (Ok n) f g = let e = f.0 in let h = g.0 in ((cc), (cc))
+  read_one (Ok m) (Err r) f g = let e = f.0 in let h = g.0 in ((cc), (cc))
+  read_one (Ok m) (Ok n) f g =
       let same = f.1 ∙ sym g.1 in
-      (ap parsed.Words same, f.2 ∙ ap (λ (k : ℕ). words_of s ++ drop k before) same ∙ sym g.2)
+      (ap Ok same, f.2 ∙ ap (λ (k : ℕ). words_of s ++ drop k before) same ∙ sym g.2)

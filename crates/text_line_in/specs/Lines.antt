@@ -1,12 +1,9 @@
 -- Lines: the check of a line, and what reading one promises.
-use Rattle.std.specs.Prelude.{ℕ, ◌/◌, ◌%◌, ◌≡◌, ◌&&◌, List, ◌++◌, eqb, ltb, leb, length, get_or, drop}
+use Rattle.std.specs.Prelude.{ℕ, ◌/◌, ◌%◌, ◌≡◌, ◌&&◌, List, ◌++◌, eqb, ltb, leb, length, get_or, drop, Result, Ok, Err}
 use Rattle.tables.specs.Limits.{digit_limit}
-use Rattle.tables.specs.Checks.{◌then◌, test, refuse, each, output_check}
-use Rattle.tables.specs.declared.refusal.Checked.{Checked}
-use Rattle.tables.specs.declared.refusal.Checked.TheVariants.{Fine, Refused}
+use Rattle.tables.specs.Checks.{◌then◌, test, refuse, each, output_check, Checked, Fine}
+use Rattle.tables.specs.declared.refusal.Refusal.{Refusal}
 use Rattle.text_digits.specs.Digits.{digit_of, words_of}
-use Rattle.outcomes.specs.declared.texts.Parsed.{Parsed}
-use Rattle.outcomes.specs.declared.texts.Parsed.TheVariants as parsed
 
 -- 13: another character
 unfoldable pub character_check : List ℕ → ℕ → ℕ → Checked
@@ -19,10 +16,10 @@ line_check s line =
     then each (character_check s line) 0 (length s)
 
 -- what reading a line promises: 13, then 7 when there is too little room for its words; the words at the front, all behind them stays
-abbrev pub ReadAs : List ℕ → ℕ → List ℕ → List ℕ → Parsed → Type 0
-ReadAs s line before after (parsed.Refused r) =
-    ((line_check s line then output_check (length s / 4) (length before)) ≡ Refused r) × (after ≡ before)
-ReadAs s line before after (parsed.Words n) =
+abbrev pub ReadAs : List ℕ → ℕ → List ℕ → List ℕ → Result ℕ Refusal → Type 0
+ReadAs s line before after (Err r) =
+    ((line_check s line then output_check (length s / 4) (length before)) ≡ Err r) × (after ≡ before)
+ReadAs s line before after (Ok n) =
     ((line_check s line then output_check (length s / 4) (length before)) ≡ Fine)
     × (n ≡ length s / 4)
     × (after ≡ words_of s ++ drop n before)

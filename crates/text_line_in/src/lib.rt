@@ -8,9 +8,8 @@ ghost use Rattle.text_digits.specs.Digits.{digit_of, word_at, Digits};
 ghost use Rattle.text_line_in.specs.Lines.{character_check, line_check, ReadAs};
 
 use check_size::output;
-use outcomes::texts::Parsed;
 use tables::limits::DIGIT_LIMIT;
-use tables::refusal::{Checked, refused};
+use tables::refusal::{Reason, Refusal, refused};
 use tables::words::byte;
 
 // The value of a digit's byte, 16 for any other byte.
@@ -33,45 +32,41 @@ fn digit(c: usize) -> usize
 }
 
 // The first of a line's characters that is no digit.
-fn characters(s: &[u8], line: usize) -> Checked
+fn characters(s: &[u8], line: usize) -> Result<(), Refusal>
     ensures { result ≡ each (character_check s.now line) 0 (length s.now) }
 {
     let n = s.len();
-    let mut i = 0;
-    while i < n {
+    for i in 0..n {
         if 15 < digit(byte(s, i)) {
-            return refused(13, 6, line);
+            return refused(Reason::Line, 6, line);
         }
-        i += 1;
     }
-    Checked::Fine
+    Ok(())
 }
 
 // A line's length, then its characters.
-fn line_checked(s: &[u8], line: usize) -> Checked
+fn line_checked(s: &[u8], line: usize) -> Result<(), Refusal>
     ensures { result ≡ line_check s.now line }
 {
     let n = s.len();
     if n == 0 {
-        return refused(13, 6, line);
+        return refused(Reason::Line, 6, line);
     }
     if n % 4 != 0 {
-        return refused(13, 6, line);
+        return refused(Reason::Line, 6, line);
     }
     if DIGIT_LIMIT < n {
-        return refused(13, 6, line);
+        return refused(Reason::Line, 6, line);
     }
     characters(s, line)
 }
 
 // A line, then the room for its words.
-fn parse_checked(s: &[u8], line: usize, room: usize) -> Checked
+fn parse_checked(s: &[u8], line: usize, room: usize) -> Result<(), Refusal>
     ensures { result ≡ (line_check s.now line then output_check (length s.now / 4) room) }
 {
-    match line_checked(s, line) {
-        Checked::Fine => output(s.len() / 4, room),
-        Checked::Refused(r) => Checked::Refused(r),
-    }
+    line_checked(s, line)?;
+    output(s.len() / 4, room)
 }
 
 // The digit at a place of a line.
@@ -111,22 +106,16 @@ fn fill_words(s: &[u8], words: &mut [u16])
     ensures { words.new ≡ tab (word_at s.now) (length s.now / 4) ++ drop (length s.now / 4) words.old }
 {
     let n = s.len() / 4;
-    let mut k = 0;
-    while k < n {
+    for k in 0..n {
         words[k] = word_of(s, k);
-        k += 1;
     }
 }
 
 // From a line's bytes to its words; the line's number is its place in a refusal.
-pub fn read_line(s: &[u8], line: usize, words: &mut [u16]) -> Parsed
+pub fn read_line(s: &[u8], line: usize, words: &mut [u16]) -> Result<usize, Refusal>
     ensures { ReadAs s.now line words.old words.new result }
 {
-    match parse_checked(s, line, words.len()) {
-        Checked::Fine => {
-            fill_words(s, words);
-            Parsed::Words(s.len() / 4)
-        }
-        Checked::Refused(r) => Parsed::Refused(r),
-    }
+    parse_checked(s, line, words.len())?;
+    fill_words(s, words);
+    Ok(s.len() / 4)
 }

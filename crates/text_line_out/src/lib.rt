@@ -7,8 +7,7 @@ ghost use Rattle.text_digits.specs.Digits.{byte_of, byte_at};
 ghost use Rattle.text_line_out.specs.Spelling.{WrittenAs};
 
 use check_size::output;
-use outcomes::texts::Spelled;
-use tables::refusal::Checked;
+use tables::refusal::Refusal;
 use tables::words::word;
 
 // The byte of a digit.
@@ -44,23 +43,17 @@ fn fill_digits(ws: &[u16], out: &mut [u8])
     ensures { out.new ≡ tab (byte_at ws.now) (4 * length ws.now) ++ drop (4 * length ws.now) out.old }
 {
     let n = 4 * ws.len();
-    let mut i = 0;
-    while i < n {
+    for i in 0..n {
         out[i] = digit_byte(digit_of(word(ws, i / 4), i % 4));
-        i += 1;
     }
 }
 
 // From words to the bytes of their line.
-pub fn write_line(ws: &[u16], out: &mut [u8]) -> Spelled
+pub fn write_line(ws: &[u16], out: &mut [u8]) -> Result<usize, Refusal>
     ensures { WrittenAs ws.now out.old out.new result }
 {
     let n = 4 * ws.len();
-    match output(n, out.len()) {
-        Checked::Fine => {
-            fill_digits(ws, out);
-            Spelled::Digits(n)
-        }
-        Checked::Refused(r) => Spelled::Refused(r),
-    }
+    output(n, out.len())?;
+    fill_digits(ws, out);
+    Ok(n)
 }

@@ -1,4 +1,5 @@
 -- One entry of a list: what makes it right, and what its check says.
+use Rattle.std.specs.Prelude.{Err}
 use Prim.Native.Nat.{ℕ, zero, suc, ◌≤◌, ◌<◌}
 use mathlib.Core.Path.{◌≡◌, refl, sym, ◌∙◌}
 use mathlib.Core.Bool.{Bool, true, false}
@@ -10,9 +11,9 @@ use lib.Seq.{length-take-le, get_or-take}
 use borrow.Author.Tests.{eqb-true, ltb-true, lt-ltb}
 use Rattle.selection.proofs.Runs.{both}
 use Rattle.tables.specs.Limits.{name_limit}
-use Rattle.tables.specs.Checks.{test, refuse}
+use Rattle.tables.specs.Checks.{test, refuse, Fine}
+use Rattle.tables.specs.Refusals.{numbered}
 use Rattle.tables.specs.declared.refusal.Refusal.{Refusal}
-use Rattle.tables.specs.declared.refusal.Checked.TheVariants.{Fine, Refused}
 use Rattle.tables.proofs.Accepted.{never, held}
 use Rattle.text_names.specs.Letters.{name}
 use Rattle.text_names.specs.Names.{Names, lines, number_of, entry_right, entry_check}
@@ -100,10 +101,10 @@ pub false_entry : (l : List ℕ) (k : ℕ) → entry_right l k ≡ false → ent
 unfolding entry_check
 false_entry l k e = rw e
 
-pub entry_false : (l : List ℕ) (k : ℕ) (r : Refusal) → entry_check l k ≡ Refused r → (entry_right l k ≡ false) × (r ≡ record { number = 14; table = 8; place = k })
+pub entry_false : (l : List ℕ) (k : ℕ) (r : Refusal) → entry_check l k ≡ Err r → (entry_right l k ≡ false) × (r ≡ record { reason = numbered 14; table = 8; place = k })
 unfolding entry_check
 entry_false l k r = go (entry_right l k)
   where
-    go : (b : Bool) → test b (refuse 14 8 k) ≡ Refused r → (b ≡ false) × (r ≡ record { number = 14; table = 8; place = k })
+    go : (b : Bool) → test b (refuse 14 8 k) ≡ Err r → (b ≡ false) × (r ≡ record { reason = numbered 14; table = 8; place = k })
     go true e = never e refl
     go false e = (refl, (cc))

@@ -11,8 +11,7 @@ use lib.Seq.{take_all, take_at, take-add, get_or_at}
 use borrow.Author.Tests.{lt-ltb, le-ltb, ltb-true}
 use Rattle.selection.proofs.Runs.{both}
 use Rattle.tables.specs.Limits.{name_limit}
-use Rattle.tables.specs.Checks.{refuse, each}
-use Rattle.tables.specs.declared.refusal.Checked.TheVariants.{Fine}
+use Rattle.tables.specs.Checks.{refuse, each, Fine}
 use Rattle.tables.proofs.Each.{each_start}
 use Rattle.text_parts.specs.Next.{next}
 use Rattle.text_parts.proofs.Finding.{next-least}

@@ -1,4 +1,5 @@
 -- Lists of names: what is accepted is a list of names and the other way round, and a list is refused where it breaks first.
+use Rattle.std.specs.Prelude.{Err}
 use Prim.Native.Nat.{ℕ, ◌+◌, ◌≤◌, ◌<◌}
 use mathlib.Core.Path.{◌≡◌, refl, sym, ◌∙◌, ap}
 use mathlib.Core.Bool.{Bool, true, false, cond, false≢true}
@@ -8,9 +9,9 @@ use native.Mathlib.Nat.{zero-add}
 use native.Mathlib.Omega.{arith}
 use lib.ListN.{length, take, drop, length-append, take-append-drop}
 use lib.Seq.{length-take-le}
-use Rattle.tables.specs.Checks.{refuse}
+use Rattle.tables.specs.Checks.{refuse, Fine}
+use Rattle.tables.specs.Refusals.{numbered}
 use Rattle.tables.specs.declared.refusal.Refusal.{Refusal}
-use Rattle.tables.specs.declared.refusal.Checked.TheVariants.{Fine, Refused}
 use Rattle.tables.proofs.Accepted.{each_fine, each_all}
 use Rattle.text_names.specs.Names.{feed, lines_of, Names, NameList, BreaksAt, lines, ended, entries, entry_right, entry_check, list_check}
 use Rattle.tables.proofs.First.{each_first, first_each}
@@ -146,7 +147,7 @@ module _ (l : List ℕ) (k : ℕ) (among : k < entries l) (before : (j : ℕ) �
       }
 
 -- where a list is refused, by 14 and in table 8, it breaks
-pub list_breaks : (l : List ℕ) (r : Refusal) → list_check l ≡ Refused r → (r ≡ record { number = 14; table = 8; place = r.place }) × BreaksAt l r.place
+pub list_breaks : (l : List ℕ) (r : Refusal) → list_check l ≡ Err r → (r ≡ record { reason = numbered 14; table = 8; place = r.place }) × BreaksAt l r.place
 unfolding list_check
 list_breaks l r e =
     let f = each_first (entry_check l) r 0 (entries l) e in
@@ -200,7 +201,7 @@ module _ (l : List ℕ) (k : ℕ) (b : BreaksAt l k) where
   pub breaks_list : list_check l ≡ refuse 14 8 k
   unfolding list_check
   breaks_list =
-      first_each (entry_check l) (record { number = 14; table = 8; place = k }) 0 (entries l)
+      first_each (entry_check l) (record { reason = numbered 14; table = 8; place = k }) 0 (entries l)
       (record {
         at = k;
         least = omega arith;

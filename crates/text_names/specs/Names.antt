@@ -1,8 +1,7 @@
 -- Lists of names: at most 256 distinct names, each ended by a line feed. A name's number is its place, from 1.
 use Rattle.std.specs.Prelude.{ℕ, suc, ◌+◌, ◌≤◌, ◌<◌, ◌≡◌, Bool, true, false, ◌&&◌, cond, List, [], ◌∷◌, ◌++◌, eqb, ltb, length, get_or, take}
 use Rattle.tables.specs.Limits.{name_limit}
-use Rattle.tables.specs.Checks.{test, refuse, each}
-use Rattle.tables.specs.declared.refusal.Checked.{Checked}
+use Rattle.tables.specs.Checks.{test, refuse, each, Checked}
 use Rattle.text_names.specs.Letters.{name}
 
 -- a line feed

@@ -21,5 +21,5 @@ const CLASSES: [u8; 256] = [
 pub(crate) fn class(c: u8) -> u8
     ensures { result ≡ class_of c }
 {
-    CLASSES[c as usize]
+    CLASSES[usize::from(c)]
 }

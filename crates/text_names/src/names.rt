@@ -6,7 +6,7 @@ ghost use Rattle.text_names.specs.Entries.{entry_fits, slots, slot_of, FreshAt};
 
 use crate::letters::{goes_at, starts_at};
 use tables::limits::NAME_LIMIT;
-use tables::refusal::{Checked, refused};
+use tables::refusal::{Reason, Refusal, refused};
 use tables::words::byte;
 use text_parts::next_byte;
 
@@ -21,12 +21,10 @@ fn same_bytes(a: &[u8], b: &[u8]) -> bool
     if n != b.len() {
         return false;
     }
-    let mut i = 0;
-    while i < n {
+    for i in 0..n {
         if byte(a, i) != byte(b, i) {
             return false;
         }
-        i += 1;
     }
     true
 }
@@ -39,12 +37,10 @@ fn is_name(s: &[u8]) -> bool
         return false;
     }
     let n = s.len();
-    let mut i = 1;
-    while i < n {
+    for i in 1..n {
         if !goes_at(s, i) {
             return false;
         }
-        i += 1;
     }
     true
 }
@@ -75,7 +71,7 @@ fn mixed(h: usize, c: u8) -> usize
     requires { h < slots }
     ensures { (result ≡ (31 * h + c) % slots) × (result < slots) }
 {
-    (31 * h + c as usize) % SLOTS
+    (31 * h + usize::from(c)) % SLOTS
 }
 
 // The slot of a text: the same text has the same slot.
@@ -83,20 +79,11 @@ fn slot(s: &[u8]) -> usize
     ensures { (result ≡ slot_of 0 s.now) × (result < slots) }
 {
     let n = s.len();
-    let mut i = 0;
     let mut h = 0;
-    while i < n {
+    for i in 0..n {
         h = mixed(h, s[i]);
-        i += 1;
     }
     h
-}
-
-// Every slot free.
-fn free_slots() -> [u8; SLOTS]
-    ensures { length result ≡ slots }
-{
-    [0; SLOTS]
 }
 
 // Entry k, from its first byte to the next line feed, is right: one of the first 256, ended by a line feed, a name, and none that stood before. Where
@@ -122,22 +109,22 @@ fn entry_right(list: &[u8], from: usize, to: usize, k: usize, mark: u8) -> bool
 }
 
 // The first entry at which a list breaks.
-pub fn list_checked(list: &[u8]) -> Checked
+pub fn list_checked(list: &[u8]) -> Result<(), Refusal>
     ensures { result ≡ list_check list.now }
 {
     let n = list.len();
-    let mut marks = free_slots();
+    let mut marks = [0u8; SLOTS];
     let mut from = 0;
     let mut k = 0;
     while from < n {
         let to = next_byte(list, from, 10);
         let at = slot(&list[from..to]);
         if !entry_right(list, from, to, k, marks[at]) {
-            return refused(14, 8, k);
+            return refused(Reason::Form, 8, k);
         }
         marks[at] = 1;
         from = to + 1;
         k += 1;
     }
-    Checked::Fine
+    Ok(())
 }

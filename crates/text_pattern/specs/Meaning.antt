@@ -1,8 +1,7 @@
 -- The pattern that a text means with a list of names, and the text of a pattern.
 use Rattle.std.specs.Prelude.{ℕ, zero, suc, ◌-◌, Bool, ◌||◌, cond, List, [], ◌∷◌, eqb, ltb, get_or}
 use Rattle.tables.specs.Words.{steps, axis, label}
-use Rattle.tables.specs.Checks.{test, refuse}
-use Rattle.tables.specs.declared.refusal.Checked.{Checked}
+use Rattle.tables.specs.Checks.{test, refuse, Checked}
 use Rattle.text_names.specs.Names.{same, number_of}
 use Rattle.text_pattern.specs.Texts.{Step, step, slash, star, spell}
 use Rattle.text_pattern.specs.Scan.{right_text, longest}

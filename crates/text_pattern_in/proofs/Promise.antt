@@ -1,4 +1,5 @@
 -- From what the checks and the steps give to the promise of reading; the promise fixes its answer and its buffer.
+use Rattle.std.specs.Prelude.{Result, Ok, Err}
 use Prim.Native.Nat.{ℕ, ◌*◌, ◌≤◌, ◌<◌}
 use mathlib.Core.Path.{◌≡◌, refl, sym, ◌∙◌, ap}
 use mathlib.Core.Bool.{true}
@@ -9,10 +10,8 @@ use lib.ListN.{length, get_or, take, drop}
 use lib.Seq.{take_at, take-length}
 use borrow.Author.Tests.{leb-true, le-leb, lt-leb}
 use Rattle.tables.specs.Limits.{name_limit, step_limit}
-use Rattle.tables.specs.Checks.{◌then◌, test, refuse, output_check}
+use Rattle.tables.specs.Checks.{◌then◌, test, refuse, output_check, Checked, Fine}
 use Rattle.tables.specs.declared.refusal.Refusal.{Refusal}
-use Rattle.tables.specs.declared.refusal.Checked.{Checked}
-use Rattle.tables.specs.declared.refusal.Checked.TheVariants.{Fine, Refused}
 use Rattle.selection.specs.Lists.{tab, front}
 use Rattle.selection.proofs.Lists.{front-take}
 use Rattle.tables.proofs.Accepted.{never, held, then_first, then_second, output_room}
@@ -24,8 +23,6 @@ use Rattle.text_pattern.proofs.Returning.{length_words}
 use Rattle.text_pattern_in.specs.Reading.{listed_check, read_text_check, ReadText}
 use Rattle.text_pattern_in.specs.Walk.{Taken}
 use Rattle.text_pattern_in.specs.Rest.{form_check, both_check, rest_check, PutAs, StepsRead}
-use Rattle.outcomes.specs.declared.texts.Parsed.{Parsed}
-use Rattle.outcomes.specs.declared.texts.Parsed.TheVariants as parsed
 
 -- the text's check, and its number of steps
 module _ (s : List ℕ) {got : Checked} (e : got ≡ text_check s) where
@@ -42,7 +39,7 @@ module _ (s : List ℕ) {got : Checked} (e : got ≡ text_check s) where
     unfolding form_check
     form_fine h = rw (← e, f, ← is, le-leb n step_limit h)
 
-  pub form_off : {r : Refusal} → got ≡ Refused r → Refused r ≡ form_check s
+  pub form_off : {r : Refusal} → got ≡ Err r → Err r ≡ form_check s
   unfolding form_check
   form_off f = rw (← e, f)
 
@@ -52,7 +49,7 @@ module _ (l s : List ℕ) {got : Checked} (e : got ≡ list_check l) where
   unfolding both_check
   both_on f a = rw (← e, f) a
 
-  pub both_off : {r : Refusal} → got ≡ Refused r → Refused r ≡ both_check l s
+  pub both_off : {r : Refusal} → got ≡ Err r → Err r ≡ both_check l s
   unfolding both_check
   both_off f = rw (← e, f)
 
@@ -61,10 +58,10 @@ module _ (ws before : List ℕ) {got : Checked} (e : got ≡ output_check (lengt
   pub put_room : got ≡ Fine → length ws ≤ length before
   put_room f = output_room (length ws) (length before) (sym e ∙ f)
 
-  pub put_fine : got ≡ Fine → {after : List ℕ} → after ≡ ws ++ drop (length ws) before → PutAs ws before after (parsed.Words (length ws))
+  pub put_fine : got ≡ Fine → {after : List ℕ} → after ≡ ws ++ drop (length ws) before → PutAs ws before after (Ok (length ws))
   put_fine f a = (sym e ∙ f, refl, a)
 
-  pub put_off : {r : Refusal} → got ≡ Refused r → PutAs ws before before (parsed.Refused r)
+  pub put_off : {r : Refusal} → got ≡ Err r → PutAs ws before before (Err r)
   put_off f = (sym e ∙ f, refl)
 
 -- a copied table
@@ -76,7 +73,7 @@ copied ws old e =
 
 -- the taken steps, put at the front
 module _ (l s room pattern : List ℕ) {got : Checked} (t : Taken l s room pattern got) (before : List ℕ) where
-  pub steps_off : {r : Refusal} → got ≡ Refused r → StepsRead l s before before (parsed.Refused r)
+  pub steps_off : {r : Refusal} → got ≡ Err r → StepsRead l s before before (Err r)
   unfolding rest_check
   steps_off f =
       let off = rw f at t in
@@ -95,18 +92,18 @@ module _ (l s room pattern : List ℕ) {got : Checked} (t : Taken l s room patte
         let long : length ws ≡ 2 * length (steps_of s) = rw (w, words_are) (length_words (lines l) (steps_of s)) in
         rw (on.0, long)
 
-    pub steps_read : (ws : List ℕ) → ws ≡ take n pattern → (after : List ℕ) (answer : Parsed) → PutAs ws before after answer → StepsRead l s before after answer
-    steps_read ws w after (parsed.Refused r) p = (asked ws w ∙ p.0, p.1)
-    steps_read ws w after (parsed.Words m) p =
+    pub steps_read : (ws : List ℕ) → ws ≡ take n pattern → (after : List ℕ) (answer : Result ℕ Refusal) → PutAs ws before after answer → StepsRead l s before after answer
+    steps_read ws w after (Err r) p = (asked ws w ∙ p.0, p.1)
+    steps_read ws w after (Ok m) p =
         let long : length ws ≡ 2 * length (steps_of s) = rw (w, words_are) (length_words (lines l) (steps_of s)) in
         (asked ws w ∙ p.0, p.1 ∙ long, p.2 ∙ rw (w, words_are))
 
 -- a refusal of the first checks is one of them all
-first_refused : (a b c d : Checked) (r : Refusal) → (a then (b then c)) ≡ Refused r → (a then (b then (c then d))) ≡ Refused r
-first_refused (Refused q) b c d r e = e
-first_refused Fine (Refused q) c d r e = e
-first_refused Fine Fine (Refused q) d r e = e
-first_refused Fine Fine Fine d r e = never e refl
+first_refused : (a b c d : Checked) (r : Refusal) → (a then (b then c)) ≡ Err r → (a then (b then (c then d))) ≡ Err r
+first_refused (Err q) b c d r e = e
+first_refused (Ok _) (Err q) c d r e = e
+first_refused (Ok _) (Ok _) (Err q) d r e = e
+first_refused (Ok _) (Ok _) (Ok _) d r e = never e refl
 
 -- both halves together
 module _ (l s before : List ℕ) {got : Checked} (e : got ≡ both_check l s) where
@@ -138,11 +135,11 @@ module _ (l s before : List ℕ) {got : Checked} (e : got ≡ both_check l s) wh
     unfolding read_text_check rest_check
     whole = rw (list_fine, right_fine, few_fine)
 
-    pub read_on : (after : List ℕ) (answer : Parsed) → StepsRead l s before after answer → ReadText l s before after answer
-    read_on after (parsed.Refused r) p = (whole ∙ p.0, p.1)
-    read_on after (parsed.Words n) p = (whole ∙ p.0, p.1, p.2)
+    pub read_on : (after : List ℕ) (answer : Result ℕ Refusal) → StepsRead l s before after answer → ReadText l s before after answer
+    read_on after (Err r) p = (whole ∙ p.0, p.1)
+    read_on after (Ok n) p = (whole ∙ p.0, p.1, p.2)
 
-  pub read_off : {r : Refusal} → got ≡ Refused r → ReadText l s before before (parsed.Refused r)
+  pub read_off : {r : Refusal} → got ≡ Err r → ReadText l s before before (Err r)
   unfolding read_text_check both_check form_check
   read_off {r} f = (
     first_refused (list_check l) (text_check s) (test (leb (length (steps_of s)) step_limit) (refuse 2 1 0))
@@ -152,10 +149,10 @@ module _ (l s before : List ℕ) {got : Checked} (e : got ≡ both_check l s) wh
 
 -- two answers with their buffers that meet the promise are the same
 module _ (l s before a b : List ℕ) where
-  pub read_one : (x y : Parsed) → ReadText l s before a x → ReadText l s before b y → (x ≡ y) × (a ≡ b)
-  read_one (parsed.Refused q) (parsed.Refused r) f g = let e = f.0 in let h = g.0 in ((cc), f.1 ∙ sym g.1)
-  read_one (parsed.Refused q) (parsed.Words n) f g = let e = f.0 in let h = g.0 in ((cc), (cc))
-  read_one (parsed.Words m) (parsed.Refused r) f g = let e = f.0 in let h = g.0 in ((cc), (cc))
-  read_one (parsed.Words m) (parsed.Words n) f g =
+  pub read_one : (x y : Result ℕ Refusal) → ReadText l s before a x → ReadText l s before b y → (x ≡ y) × (a ≡ b)
+  read_one (Err q) (Err r) f g = let e = f.0 in let h = g.0 in ((cc), f.1 ∙ sym g.1)
+  read_one (Err q) (Ok n) f g = let e = f.0 in let h = g.0 in ((cc), (cc))
+  read_one (Ok m) (Err r) f g = let e = f.0 in let h = g.0 in ((cc), (cc))
+  read_one (Ok m) (Ok n) f g =
       let same = f.1 ∙ sym g.1 in
-      (ap parsed.Words same, f.2 ∙ ap (λ (k : ℕ). words_of (lines l) (steps_of s) ++ drop k before) same ∙ sym g.2)
+      (ap Ok same, f.2 ∙ ap (λ (k : ℕ). words_of (lines l) (steps_of s) ++ drop k before) same ∙ sym g.2)

@@ -9,9 +9,7 @@ use lib.Dec.{ltb}
 use lib.ListN.{length, get_or, drop, drop_of_length-le}
 use lib.Seq.{drop-cons}
 use borrow.Author.Tests.{lt-ltb, le-ltb}
-use Rattle.tables.specs.Checks.{refuse}
-use Rattle.tables.specs.declared.refusal.Checked.{Checked}
-use Rattle.tables.specs.declared.refusal.Checked.TheVariants.{Fine}
+use Rattle.tables.specs.Checks.{refuse, Checked, Fine}
 use Rattle.text_parts.specs.Scans.{scanned, lasting}
 use Rattle.text_pattern.specs.Scan.{kind_of, next_of, byte_on, after, on, ends, lasts, right_text, longest}
 use Rattle.text_pattern.specs.Meaning.{text_check}

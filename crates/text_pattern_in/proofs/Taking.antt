@@ -8,9 +8,7 @@ use native.Mathlib.Omega.{arith}
 use lib.ListN.{length, get_or, set, take, drop, length-append, length-drop}
 use lib.Seq.{drop-cons, set_at, take_all, append_snoc, length-take-le}
 use Rattle.tables.specs.Limits.{word_limit, name_limit}
-use Rattle.tables.specs.Checks.{◌then◌, test, refuse}
-use Rattle.tables.specs.declared.refusal.Checked.{Checked}
-use Rattle.tables.specs.declared.refusal.Checked.TheVariants.{Fine}
+use Rattle.tables.specs.Checks.{◌then◌, test, refuse, Checked, Fine}
 use Rattle.selection.proofs.Runs.{both}
 use Rattle.tables.proofs.Accepted.{held, then_first, then_second}
 use Rattle.text_names.specs.Names.{lines}

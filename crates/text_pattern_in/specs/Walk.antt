@@ -1,8 +1,7 @@
 -- Inside: the steps of a text by their places in its bytes, and what taking them answers.
-use Rattle.std.specs.Prelude.{ℕ, ◌+◌, ◌*◌, ◌≡◌, cond, List, ◌++◌, eqb, length, get_or, drop}
+use Rattle.std.specs.Prelude.{ℕ, ◌+◌, ◌*◌, ◌≡◌, cond, List, ◌++◌, eqb, length, get_or, drop, Ok, Err}
 use Rattle.tables.specs.Limits.{word_limit}
-use Rattle.tables.specs.declared.refusal.Checked.{Checked}
-use Rattle.tables.specs.declared.refusal.Checked.TheVariants.{Fine, Refused}
+use Rattle.tables.specs.Checks.{Checked, Fine}
 use Rattle.text_parts.specs.Next.{next}
 use Rattle.text_names.specs.Names.{lines}
 use Rattle.text_names.specs.Entries.{piece}
@@ -35,6 +34,6 @@ found_of ws w = cond (listed ws w) (label_of ws w) word_limit
 
 -- what taking the steps of s into a table promises
 abbrev pub Taken : List ℕ → List ℕ → List ℕ → List ℕ → Checked → Type 0
-Taken l s before after Fine =
+Taken l s before after (Ok tt) =
     (listed_check (lines l) 0 (steps_of s) ≡ Fine) × (after ≡ words_of (lines l) (steps_of s) ++ drop (2 * length (steps_of s)) before)
-Taken l s before after (Refused r) = listed_check (lines l) 0 (steps_of s) ≡ Refused r
+Taken l s before after (Err r) = listed_check (lines l) 0 (steps_of s) ≡ Err r

@@ -13,36 +13,29 @@ ghost use Rattle.text_pattern_in.specs.Reading.{ReadText};
 ghost use Rattle.text_pattern_in.specs.Rest.{form_check, both_check, PutAs, StepsRead};
 
 use check_size::output;
-use outcomes::texts::Parsed;
 use scan::text_checked;
 use steps::{count_steps, take_steps};
 use tables::limits::STEP_LIMIT;
-use tables::refusal::{Checked, refused};
+use tables::refusal::{Reason, Refusal, refused};
 use text_names::names::list_checked;
 
 // A right text, then its number of steps.
-fn form_checked(s: &[u8]) -> Checked
+fn form_checked(s: &[u8]) -> Result<(), Refusal>
     ensures { result ≡ form_check s.now }
 {
-    match text_checked(s) {
-        Checked::Fine => {
-            if STEP_LIMIT < count_steps(s) {
-                return refused(2, 1, 0);
-            }
-            Checked::Fine
-        }
-        Checked::Refused(r) => Checked::Refused(r),
+    text_checked(s)?;
+    if STEP_LIMIT < count_steps(s) {
+        return refused(Reason::Limit, 1, 0);
     }
+    Ok(())
 }
 
 // The list, then the text.
-fn both_checked(list: &[u8], s: &[u8]) -> Checked
+fn both_checked(list: &[u8], s: &[u8]) -> Result<(), Refusal>
     ensures { result ≡ both_check list.now s.now }
 {
-    match list_checked(list) {
-        Checked::Fine => form_checked(s),
-        Checked::Refused(r) => Checked::Refused(r),
-    }
+    list_checked(list)?;
+    form_checked(s)
 }
 
 // Words, at the front.
@@ -51,56 +44,37 @@ fn copy_words(ws: &[u16], words: &mut [u16])
     ensures { words.new ≡ ws.now ++ drop (length ws.now) words.old }
 {
     let n = ws.len();
-    let mut i = 0;
-    while i < n {
+    for i in 0..n {
         words[i] = ws[i];
-        i += 1;
     }
 }
 
 // Words, at the front, where there is room for them.
-fn put_words(ws: &[u16], words: &mut [u16]) -> Parsed
+fn put_words(ws: &[u16], words: &mut [u16]) -> Result<usize, Refusal>
     ensures { PutAs ws.now words.old words.new result }
 {
-    match output(ws.len(), words.len()) {
-        Checked::Fine => {
-            copy_words(ws, words);
-            Parsed::Words(ws.len())
-        }
-        Checked::Refused(r) => Parsed::Refused(r),
-    }
-}
-
-// Room for a pattern of the most steps.
-fn room() -> [u16; 2 * STEP_LIMIT]
-    ensures { length result ≡ 2 * step_limit }
-{
-    [0; 2 * STEP_LIMIT]
+    output(ws.len(), words.len())?;
+    copy_words(ws, words);
+    Ok(ws.len())
 }
 
 // The steps of a right text: looked up first, and put into the lent words only then.
-fn read_steps(list: &[u8], s: &[u8], words: &mut [u16]) -> Parsed
+fn read_steps(list: &[u8], s: &[u8], words: &mut [u16]) -> Result<usize, Refusal>
     requires list_len_bound { length (lines list.now) ≤ name_limit }
     requires s_value { right_text s.now ≡ true }
     requires s_len_bound { length (steps_of s.now) ≤ step_limit }
     ensures { StepsRead list.now s.now words.old words.new result }
 {
-    let mut pattern = room();
-    match take_steps(list, s, &mut pattern) {
-        Checked::Fine => {
-            let n = 2 * count_steps(s);
-            put_words(&pattern[0..n], words)
-        }
-        Checked::Refused(r) => Parsed::Refused(r),
-    }
+    let mut pattern = [0u16; 2 * STEP_LIMIT];
+    take_steps(list, s, &mut pattern)?;
+    let n = 2 * count_steps(s);
+    put_words(&pattern[0..n], words)
 }
 
 // From a pattern's text to its table, with a list of names.
-pub fn read_pattern(list: &[u8], s: &[u8], words: &mut [u16]) -> Parsed
+pub fn read_pattern(list: &[u8], s: &[u8], words: &mut [u16]) -> Result<usize, Refusal>
     ensures { ReadText list.now s.now words.old words.new result }
 {
-    match both_checked(list, s) {
-        Checked::Fine => read_steps(list, s, words),
-        Checked::Refused(r) => Parsed::Refused(r),
-    }
+    both_checked(list, s)?;
+    read_steps(list, s, words)
 }

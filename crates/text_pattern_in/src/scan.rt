@@ -3,7 +3,7 @@ ghost use Rattle.std.specs.Prelude.{◌≡◌, get_or};
 ghost use Rattle.text_pattern.specs.Scan.{kind_of, next_of, ends as endsOf};
 ghost use Rattle.text_pattern.specs.Meaning.{text_check};
 
-use tables::refusal::{Checked, refused};
+use tables::refusal::{Reason, Refusal, refused};
 use tables::words::byte;
 use text_names::letters::{goes_at, starts_at};
 
@@ -100,21 +100,19 @@ fn ends(q: usize) -> bool
 }
 
 // A right text, or 14 with the length of its longest start that some right text has.
-pub(crate) fn text_checked(s: &[u8]) -> Checked
+pub(crate) fn text_checked(s: &[u8]) -> Result<(), Refusal>
     ensures { result ≡ text_check s.now }
 {
     let n = s.len();
     let mut q = 0;
-    let mut i = 0;
-    while i < n {
+    for i in 0..n {
         q = next(q, kind_at(s, i));
         if 4 < q {
-            return refused(14, 7, i);
+            return refused(Reason::Form, 7, i);
         }
-        i += 1;
     }
     if ends(q) {
-        return Checked::Fine;
+        return Ok(());
     }
-    refused(14, 7, n)
+    refused(Reason::Form, 7, n)
 }

@@ -8,7 +8,7 @@ ghost use Rattle.text_pattern.specs.Meaning.{steps_of};
 ghost use Rattle.text_pattern_in.specs.Walk.{word_from, word_to, word_at, axis_at, found_of, Taken};
 
 use tables::limits::WORD_LIMIT;
-use tables::refusal::{Checked, refused};
+use tables::refusal::{Reason, Refusal, refused};
 use tables::words::byte;
 use text_names::names::number;
 use text_parts::next_byte;
@@ -65,10 +65,7 @@ fn axis_at(s: &[u8], i: usize, k: usize) -> u16
 fn is_star(w: &[u8]) -> bool
     ensures { result ≡ same w.now star }
 {
-    if w.len() != 1 {
-        return false;
-    }
-    byte(w, 0) == 42
+    w.len() == 1 && byte(w, 0) == 42
 }
 
 // The label of a word: 0 for a star, a name's number, or past the last word where it is not listed.
@@ -105,7 +102,7 @@ fn put_step(words: &mut [u16], k: usize, axis: u16, label: usize)
 }
 
 // The steps of a right text into a table that has room for them; 15 for the first whose name is not listed.
-pub(crate) fn take_steps(list: &[u8], s: &[u8], words: &mut [u16]) -> Checked
+pub(crate) fn take_steps(list: &[u8], s: &[u8], words: &mut [u16]) -> Result<(), Refusal>
     requires list_len_bound { length (lines list.now) ≤ name_limit }
     requires s_value { right_text s.now ≡ true }
     requires s_in_bounds { 2 * length (steps_of s.now) ≤ length words.old }
@@ -117,11 +114,11 @@ pub(crate) fn take_steps(list: &[u8], s: &[u8], words: &mut [u16]) -> Checked
     while i < n {
         let label = label_at(list, s, i);
         if WORD_LIMIT <= label {
-            return refused(15, 1, k);
+            return refused(Reason::Name, 1, k);
         }
         put_step(words, k, axis_at(s, i, k), label);
         i = word_to(s, i);
         k += 1;
     }
-    Checked::Fine
+    Ok(())
 }

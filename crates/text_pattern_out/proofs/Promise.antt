@@ -1,4 +1,5 @@
 -- From what the checks and the steps give to the promise of writing a pattern; the promise fixes its answer and its buffer.
+use Rattle.std.specs.Prelude.{Result, Ok, Err}
 use Prim.Native.Nat.{ℕ, ◌<◌, ◌≤◌}
 use mathlib.Core.Path.{◌≡◌, refl, sym, ◌∙◌, ap}
 use mathlib.Core.List.{List, ◌++◌}
@@ -8,18 +9,14 @@ use lib.ListN.{length, drop}
 use borrow.Author.Tests.{leb-true, le-leb, lt-leb}
 use Rattle.tables.specs.Limits.{step_limit}
 use Rattle.tables.specs.Words.{steps, label}
-use Rattle.tables.specs.Checks.{◌then◌, refuse, each, pattern_check}
+use Rattle.tables.specs.Checks.{◌then◌, refuse, each, pattern_check, Checked, Fine}
 use Rattle.tables.specs.declared.refusal.Refusal.{Refusal}
-use Rattle.tables.specs.declared.refusal.Checked.{Checked}
-use Rattle.tables.specs.declared.refusal.Checked.TheVariants.{Fine, Refused}
 use Rattle.tables.proofs.Accepted.{held, then_first, then_second, each_fine, output_room}
 use Rattle.text_names.specs.Names.{lines, list_check}
 use Rattle.text_pattern.specs.Meaning.{text_of}
 use Rattle.text_pattern_out.specs.Steps.{Numbered, Put}
 use Rattle.text_pattern_out.specs.Rest.{numbers_check, room_check, rest_check}
 use Rattle.text_pattern_out.specs.Writing.{number_check, write_text_check, WriteText}
-use Rattle.outcomes.specs.declared.texts.Printed.{Printed}
-use Rattle.outcomes.specs.declared.texts.Printed.TheVariants as printed
 
 -- one step's number
 module _ (ws : List (List ℕ)) (p : List ℕ) (i : ℕ) {most l : ℕ} (counted : most ≡ length ws) (is : l ≡ label p i) where
@@ -47,18 +44,18 @@ module _ (l p before : List ℕ) {got : Checked} (e : got ≡ write_text_check l
           output_room (length (text_of (lines l) p)) (length before) (then_second (numbers_check l p) (room_check l p (length before)) rest),
         )
 
-    pub written : {after : List ℕ} {n : ℕ} → Put (text_of (lines l) p) before after n → WriteText l p before after (printed.Bytes n)
+    pub written : {after : List ℕ} {n : ℕ} → Put (text_of (lines l) p) before after n → WriteText l p before after (Ok n)
     written put = (sym e ∙ f, put.long, put.written)
 
-  pub write_refused : {r : Refusal} → got ≡ Refused r → WriteText l p before before (printed.Refused r)
+  pub write_refused : {r : Refusal} → got ≡ Err r → WriteText l p before before (Err r)
   write_refused f = (sym e ∙ f, refl)
 
 -- two answers with their buffers that meet the promise are the same
 module _ (l p before a b : List ℕ) where
-  pub write_one : (x y : Printed) → WriteText l p before a x → WriteText l p before b y → (x ≡ y) × (a ≡ b)
-  write_one (printed.Refused q) (printed.Refused r) f g = let e = f.0 in let h = g.0 in ((cc), f.1 ∙ sym g.1)
-  write_one (printed.Refused q) (printed.Bytes n) f g = let e = f.0 in let h = g.0 in ((cc), (cc))
-  write_one (printed.Bytes m) (printed.Refused r) f g = let e = f.0 in let h = g.0 in ((cc), (cc))
-  write_one (printed.Bytes m) (printed.Bytes n) f g =
+  pub write_one : (x y : Result ℕ Refusal) → WriteText l p before a x → WriteText l p before b y → (x ≡ y) × (a ≡ b)
+  write_one (Err q) (Err r) f g = let e = f.0 in let h = g.0 in ((cc), f.1 ∙ sym g.1)
+  write_one (Err q) (Ok n) f g = let e = f.0 in let h = g.0 in ((cc), (cc))
+  write_one (Ok m) (Err r) f g = let e = f.0 in let h = g.0 in ((cc), (cc))
+  write_one (Ok m) (Ok n) f g =
       let same = f.1 ∙ sym g.1 in
-      (ap printed.Bytes same, f.2 ∙ ap (λ (k : ℕ). text_of (lines l) p ++ drop k before) same ∙ sym g.2)
+      (ap Ok same, f.2 ∙ ap (λ (k : ℕ). text_of (lines l) p ++ drop k before) same ∙ sym g.2)

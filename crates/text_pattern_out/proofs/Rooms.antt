@@ -7,9 +7,7 @@ use native.Mathlib.Omega.{arith}
 use lib.ListN.{length}
 use borrow.Author.Tests.{le-leb, lt-leb}
 use Rattle.tables.specs.Words.{steps, axis, label}
-use Rattle.tables.specs.Checks.{refuse, output_check}
-use Rattle.tables.specs.declared.refusal.Checked.{Checked}
-use Rattle.tables.specs.declared.refusal.Checked.TheVariants.{Fine}
+use Rattle.tables.specs.Checks.{refuse, output_check, Checked, Fine}
 use Rattle.check_size.proofs.Branches.{output_short, output_long}
 use Rattle.text_parts.specs.Next.{next}
 use Rattle.text_names.specs.Names.{feed, lines}

@@ -1,8 +1,7 @@
 -- Inside: the checks that follow the list's and the pattern's own, as the code makes them.
 use Rattle.std.specs.Prelude.{ℕ, List, length}
 use Rattle.tables.specs.Words.{steps}
-use Rattle.tables.specs.Checks.{◌then◌, each, output_check}
-use Rattle.tables.specs.declared.refusal.Checked.{Checked}
+use Rattle.tables.specs.Checks.{◌then◌, each, output_check, Checked}
 use Rattle.text_names.specs.Names.{lines}
 use Rattle.text_pattern.specs.Meaning.{text_of}
 use Rattle.text_pattern_out.specs.Writing.{number_check}

@@ -9,52 +9,44 @@ use crate::list::names;
 use crate::room::room_checked;
 use check_pattern::pattern;
 use tables::limits::STEP_LIMIT;
-use tables::refusal::{Checked, refused};
+use tables::refusal::{Reason, Refusal, refused};
 use tables::words::second_word;
 use text_names::names::list_checked;
 
 // The first step whose number has no name.
-fn numbers(list: &[u8], p: &[u16]) -> Checked
+fn numbers(list: &[u8], p: &[u16]) -> Result<(), Refusal>
     ensures { result ≡ numbers_check list.now p.now }
 {
     let most = names(list);
     let n = p.len() / 2;
-    let mut i = 0;
-    while i < n {
+    for i in 0..n {
         if most < second_word(p, i) {
-            return refused(15, 1, i);
+            return refused(Reason::Name, 1, i);
         }
-        i += 1;
     }
-    Checked::Fine
+    Ok(())
 }
 
 // The numbers, then the room.
-fn numbers_and_room(list: &[u8], p: &[u16], room: usize) -> Checked
+fn numbers_and_room(list: &[u8], p: &[u16], room: usize) -> Result<(), Refusal>
     ensures { result ≡ rest_check list.now p.now room }
 {
-    match numbers(list, p) {
-        Checked::Fine => room_checked(list, p, room),
-        Checked::Refused(r) => Checked::Refused(r),
-    }
+    numbers(list, p)?;
+    room_checked(list, p, room)
 }
 
 // The pattern, then its numbers and the room.
-fn pattern_and_rest(list: &[u8], p: &[u16], room: usize) -> Checked
+fn pattern_and_rest(list: &[u8], p: &[u16], room: usize) -> Result<(), Refusal>
     ensures { result ≡ (pattern_check p.now step_limit 1 then rest_check list.now p.now room) }
 {
-    match pattern(p, STEP_LIMIT, 1) {
-        Checked::Fine => numbers_and_room(list, p, room),
-        Checked::Refused(r) => Checked::Refused(r),
-    }
+    pattern(p, STEP_LIMIT, 1)?;
+    numbers_and_room(list, p, room)
 }
 
 // The list, then the pattern and the room.
-pub(crate) fn write_checked(list: &[u8], p: &[u16], room: usize) -> Checked
+pub(crate) fn write_checked(list: &[u8], p: &[u16], room: usize) -> Result<(), Refusal>
     ensures { result ≡ write_text_check list.now p.now room }
 {
-    match list_checked(list) {
-        Checked::Fine => pattern_and_rest(list, p, room),
-        Checked::Refused(r) => Checked::Refused(r),
-    }
+    list_checked(list)?;
+    pattern_and_rest(list, p, room)
 }

@@ -30,10 +30,8 @@ pub(crate) fn name_from(list: &[u8], k: usize) -> usize
     ensures { NameFrom list.now k result }
 {
     let mut from = 0;
-    let mut i = 0;
-    while i < k {
+    for _i in 0..k {
         from = next_byte(list, from, 10) + 1;
-        i += 1;
     }
     from
 }

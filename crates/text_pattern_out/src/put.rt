@@ -27,10 +27,8 @@ fn put_name(list: &[u8], from: usize, n: usize, out: &mut [u8])
     requires n_in_bounds_2 { n ≤ length out.old }
     ensures { out.new ≡ take n (drop from list.now) ++ drop n out.old }
 {
-    let mut k = 0;
-    while k < n {
+    for k in 0..n {
         out[k] = list[from + k];
-        k += 1;
     }
 }
 
@@ -69,10 +67,8 @@ pub(crate) fn put_steps(list: &[u8], p: &[u16], out: &mut [u8]) -> usize
 {
     let n = p.len() / 2;
     let mut at = 0;
-    let mut i = 0;
-    while i < n {
+    for i in 0..n {
         at += put_step(list, first_word(p, i), second_word(p, i), &mut out[at..]);
-        i += 1;
     }
     at
 }

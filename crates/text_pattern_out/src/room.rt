@@ -7,7 +7,7 @@ ghost use Rattle.text_pattern_out.specs.Steps.{Numbered};
 ghost use Rattle.text_pattern_out.specs.Rest.{room_check};
 
 use crate::list::{name_from, name_length};
-use tables::refusal::{Checked, refused};
+use tables::refusal::{Reason, Refusal, refused};
 use tables::words::{first_word, second_word};
 
 // How many slashes stand before a step.
@@ -32,24 +32,22 @@ fn word_length(list: &[u8], label: usize) -> usize
 }
 
 // The room for a pattern's text: refusal 7 where it is too little.
-pub(crate) fn room_checked(list: &[u8], p: &[u16], room: usize) -> Checked
+pub(crate) fn room_checked(list: &[u8], p: &[u16], room: usize) -> Result<(), Refusal>
     requires { Numbered (lines list.now) p.now }
     ensures { result ≡ room_check list.now p.now room }
 {
     let n = p.len() / 2;
     let mut left = room;
-    let mut i = 0;
-    while i < n {
+    for i in 0..n {
         let s = slash_count(first_word(p, i));
         let w = word_length(list, second_word(p, i));
         if left < s {
-            return refused(7, 4, 0);
+            return refused(Reason::Output, 4, 0);
         }
         if left - s < w {
-            return refused(7, 4, 0);
+            return refused(Reason::Output, 4, 0);
         }
         left = left - s - w;
-        i += 1;
     }
-    Checked::Fine
+    Ok(())
 }

@@ -1,4 +1,5 @@
 -- The printed lines, four bytes a word and a line feed, one behind the other.
+use Rattle.std.specs.Prelude.{Result, Ok, Err, IsOk}
 use Prim.Native.Nat.{ℕ, zero, suc, ◌+◌, ◌-◌, ◌*◌, ◌/◌, ◌%◌, ◌^◌, ◌≤◌}
 use mathlib.Core.Path.{◌≡◌, refl, sym, ◌∙◌, ap}
 use mathlib.Core.List.{List, [], ◌∷◌, ◌++◌, map, append_assoc, append-nil}
@@ -7,13 +8,12 @@ use native.Mathlib.Omega.{arith}
 use lib.ListN.{length, get_or, take, drop, set, length-append, length-map, length-drop, length-take}
 use lib.Seq.{drop-cons, set_at, drop-drop, append_snoc, take_at, drop_at}
 use Rattle.tables.specs.Limits.{word_limit}
+use Rattle.tables.specs.declared.refusal.Refusal.{Refusal}
 use Rattle.check_size.proofs.Branches.{output_long}
 use Rattle.selection.proofs.Lists.{tab_ext, length-behind, rest_whole, rest_none}
 use Rattle.text_digits.specs.Digits.{byte_at, line_of}
 use Rattle.text_digits.proofs.Returning.{length-line_of}
 use Rattle.text_line_out.specs.Spelling.{WrittenAs}
-use Rattle.outcomes.specs.declared.texts.Spelled.{Spelled}
-use Rattle.outcomes.specs.declared.texts.Spelled.TheVariants as spelled
 use Rattle.text_plan_lines.specs.Printing.{printed_line, plan_text}
 
 pub length-printed_line : (ws : List ℕ) → length (printed_line ws) ≡ 4 * length ws + 1
@@ -51,18 +51,21 @@ words_printed ns rest e low = e ∙ rw (low, line_low ns)
 
 -- where there is room, words are written
 module _ (ws before : List ℕ) (room : 4 * length ws + 1 ≤ length before) (after : List ℕ) where
-  digits_written : (r : Spelled) → WrittenAs ws before after r → after ≡ line_of ws ++ drop (4 * length ws) before
-  digits_written (spelled.Refused r) e =
+  pub line_fits : (r : Result ℕ Refusal) → WrittenAs ws before after r → IsOk r
+  line_fits (Err r) e =
       let fine = output_long (4 * length ws) (length before) (omega (arith, room)) in
       let why = e.0 in
       let z : ◌≡◌ {A = ℕ} 0 1 = cc in
       absurd (omega arith)
-  digits_written (spelled.Digits n) e = e.2 ∙ rw e.1
+  line_fits (Ok n) e = refl
 
-  pub line_written : (r : Spelled) → WrittenAs ws before after r → set after (4 * length ws) 10 ≡ printed_line ws ++ drop (4 * length ws + 1) before
+  pub line_written : {r : Result ℕ Refusal} {end : ℕ} → WrittenAs ws before after r → r ≡ Ok end
+      → set after end 10 ≡ printed_line ws ++ drop (4 * length ws + 1) before
   unfolding printed_line
-  line_written r e =
-      rw (digits_written r e, drop-cons before (4 * length ws) 0 (omega (arith, room)), add-one (4 * length ws))
+  line_written e told =
+      let written = rw told at e in
+      let put : after ≡ line_of ws ++ drop (4 * length ws) before = written.2 ∙ rw written.1 in
+      rw (written.1, put, drop-cons before (4 * length ws) 0 (omega (arith, room)), add-one (4 * length ws))
       (set_at (line_of ws) (get_or before (4 * length ws) 0) (drop (suc (4 * length ws)) before) 10 (4 * length ws) (length-line_of ws)
       ∙ sym (append_snoc (line_of ws) 10 (drop (suc (4 * length ws)) before)))
 

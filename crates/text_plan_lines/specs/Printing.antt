@@ -1,10 +1,8 @@
 -- Printed lines: words and a line feed each, and what writing them promises.
-use Rattle.std.specs.Prelude.{ℕ, zero, suc, ◌+◌, ◌≡◌, List, [], ◌∷◌, ◌++◌, length, get_or, drop}
-use Rattle.tables.specs.Checks.{output_check}
-use Rattle.tables.specs.declared.refusal.Checked.TheVariants as checked
+use Rattle.std.specs.Prelude.{ℕ, zero, suc, ◌+◌, ◌≡◌, List, [], ◌∷◌, ◌++◌, length, get_or, drop, Result, Ok, Err}
+use Rattle.tables.specs.Checks.{output_check, Fine}
+use Rattle.tables.specs.declared.refusal.Refusal.{Refusal}
 use Rattle.text_digits.specs.Digits.{line_of}
-use Rattle.outcomes.specs.declared.texts.Printed.{Printed}
-use Rattle.outcomes.specs.declared.texts.Printed.TheVariants.{Refused, Bytes}
 
 -- words as a line, with its line feed; of a greater number the last four digits
 unfoldable pub printed_line : List ℕ → List ℕ
@@ -20,7 +18,7 @@ plan_text kinds plan zero = []
 plan_text kinds plan (suc n) = plan_text kinds plan n ++ printed_line (get_or kinds n 0 ∷ (n + 1) ∷ get_or plan n 0 ∷ [])
 
 -- a text is written: 7 when there is too little room; the text at the front, all behind it stays
-abbrev pub Answered : List ℕ → List ℕ → List ℕ → Printed → Type 0
-Answered text before after (Refused r) = (output_check (length text) (length before) ≡ checked.Refused r) × (after ≡ before)
-Answered text before after (Bytes n) =
-    (output_check (length text) (length before) ≡ checked.Fine) × (n ≡ length text) × (after ≡ text ++ drop n before)
+abbrev pub Answered : List ℕ → List ℕ → List ℕ → Result ℕ Refusal → Type 0
+Answered text before after (Err r) = (output_check (length text) (length before) ≡ Err r) × (after ≡ before)
+Answered text before after (Ok n) =
+    (output_check (length text) (length before) ≡ Fine) × (n ≡ length text) × (after ≡ text ++ drop n before)

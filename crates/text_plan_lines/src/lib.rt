@@ -6,9 +6,8 @@ ghost use Rattle.tables.specs.Limits.{word_limit};
 ghost use Rattle.text_plan_lines.specs.Printing.{printed_line, refusal_text, plan_text, Answered};
 
 use check_size::output;
-use outcomes::texts::Printed;
 use tables::limits::WORD_LIMIT;
-use tables::refusal::Checked;
+use tables::refusal::Refusal;
 use tables::words::word;
 use text_line_out::write_line;
 
@@ -24,8 +23,7 @@ fn write_words(words: &[u16], out: &mut [u8])
     requires { 4 * length words.now + 1 ≤ length out.old }
     ensures { out.new ≡ printed_line words.now ++ drop (4 * length words.now + 1) out.old }
 {
-    write_line(words, out);
-    let end = 4 * words.len();
+    let end = write_line(words, out).unwrap();
     out[end] = 10;
 }
 
@@ -53,36 +51,31 @@ fn write_frames(kinds: &[u16], plan: &[u16], out: &mut [u8])
     ensures { out.new ≡ plan_text kinds.now plan.now (length kinds.now) ++ drop (13 * length kinds.now) out.old }
 {
     let n = kinds.len();
-    let mut k = 0;
-    while k < n {
+    for k in 0..n {
         write_three(word(kinds, k), k + 1, word(plan, k), &mut out[13 * k..]);
-        k += 1;
     }
 }
 
 // FFFF, the line number, the refusal number and the offset in that line.
-pub fn print_refusal(line: usize, number: usize, offset: usize, out: &mut [u8]) -> Printed
+pub fn print_refusal(
+    line: usize,
+    number: usize,
+    offset: usize,
+    out: &mut [u8],
+) -> Result<usize, Refusal>
     ensures { Answered (refusal_text line number offset) out.old out.new result }
 {
-    match output(17, out.len()) {
-        Checked::Refused(r) => Printed::Refused(r),
-        Checked::Fine => {
-            write_four(65535, line, number, offset, out);
-            Printed::Bytes(17)
-        }
-    }
+    output(17, out.len())?;
+    write_four(65535, line, number, offset, out);
+    Ok(17)
 }
 
 // A line a frame: its kind, its number from 1, its plan word.
-pub fn print_frames(kinds: &[u16], plan: &[u16], out: &mut [u8]) -> Printed
+pub fn print_frames(kinds: &[u16], plan: &[u16], out: &mut [u8]) -> Result<usize, Refusal>
     ensures { Answered (plan_text kinds.now plan.now (length kinds.now)) out.old out.new result }
 {
     let n = kinds.len();
-    match output(n, out.len() / 13) {
-        Checked::Refused(r) => Printed::Refused(r),
-        Checked::Fine => {
-            write_frames(kinds, plan, out);
-            Printed::Bytes(13 * n)
-        }
-    }
+    output(n, out.len() / 13)?;
+    write_frames(kinds, plan, out);
+    Ok(13 * n)
 }

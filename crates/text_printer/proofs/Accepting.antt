@@ -8,9 +8,8 @@ use native.Mathlib.Omega.{arith}
 use lib.ListN.{length, length-append}
 use borrow.Author.Tests.{le-leb}
 use Rattle.tables.specs.Limits.{batch_limit, frame_limit}
-use Rattle.tables.specs.Checks.{output_check}
+use Rattle.tables.specs.Checks.{output_check, Fine}
 use Rattle.tables.specs.declared.refusal.Refusal.{Refusal}
-use Rattle.tables.specs.declared.refusal.Checked.TheVariants.{Fine}
 use Rattle.batch_frame.specs.Frames.{kind, end_of, frame_check}
 use Rattle.text_digits.specs.Digits.{words_of}
 use Rattle.batch_check.specs.Batches.{frames_from, batch_of, check_from, batch_check, plan_check}

@@ -1,4 +1,6 @@
 -- What stands behind the input that counts changes nothing that is printed.
+use Rattle.std.specs.Prelude.{Result}
+use Rattle.tables.specs.declared.refusal.Refusal.{Refusal}
 use Prim.Native.Nat.{ℕ, zero, suc, ◌+◌, ◌-◌, ◌*◌, ◌≤◌, ◌<◌, min}
 use mathlib.Core.Path.{◌≡◌, refl, sym, ◌∙◌, ap}
 use mathlib.Core.Bool.{Bool, true, false, cond}
@@ -11,14 +13,13 @@ use lib.Dec.{eqb}
 use lib.ListN.{length, get_or, take, drop, length-append, length-take}
 use lib.Seq.{get_or-take, get_or-drop, take-take, take-nil, ext_get_or}
 use Rattle.tables.specs.Limits.{digit_limit}
-use Rattle.tables.specs.Checks.{refuse}
-use Rattle.tables.specs.declared.refusal.Checked.TheVariants.{Fine}
+use Rattle.tables.specs.Refusals.{numbered}
+use Rattle.tables.specs.Checks.{refuse, Fine}
 use Rattle.text_digits.specs.Digits.{words_of}
 use Rattle.text_parts.specs.Next.{next_from, next}
 use Rattle.text_parts.proofs.Finding.{from_least, next-least, next_most}
 use Rattle.text_line_in.specs.Lines.{line_check}
 use Rattle.text_line_in.proofs.Promise.{line_short, line_some}
-use Rattle.outcomes.specs.declared.texts.Printed.{Printed}
 use Rattle.batch_frame.specs.Frames.{kind}
 use Rattle.batch_mode.specs.Modes.{mode_of}
 use Rattle.batch_mode.specs.declared.Mode.{Mode}
@@ -35,7 +36,7 @@ over_long : (l : List ℕ) (n : ℕ) (b : List ℕ) → digit_limit < length l �
 unfolding take_check
 over_long l n b h = go (line_only l (n + 1))
   where
-    go : Only (record { number = 13; table = 6; place = n + 1 }) (line_check l (n + 1)) → take_check l n b ≡ refuse 13 6 (n + 1)
+    go : Only (record { reason = numbered 13; table = 6; place = n + 1 }) (line_check l (n + 1)) → take_check l n b ≡ refuse 13 6 (n + 1)
     go (inl fine) = absurd (omega (arith, line_short l (n + 1) fine))
     go (inr why) = rw why refl
 
@@ -166,5 +167,5 @@ pub prints_first : (s text : List ℕ) → Prints s text ↔ Prints (take input_
 prints_first s text = (prints_same s (take input_most s) (sym (first_bytes s)), prints_same (take input_most s) s (first_bytes s))
 
 -- an answer that meets the promise for the first bytes meets it for the input
-pub printed_first : (s before after : List ℕ) (answer : Printed) → PrintedAs (take input_most s) before after answer → PrintedAs s before after answer
+pub printed_first : (s before after : List ℕ) (answer : Result ℕ Refusal) → PrintedAs (take input_most s) before after answer → PrintedAs s before after answer
 printed_first s before after answer e = record { text = e.text; prints = prints_same (take input_most s) s (first_bytes s) e.prints; answered = e.answered }

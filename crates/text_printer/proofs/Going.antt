@@ -1,4 +1,5 @@
 -- Going from line to line: what the lines from here on end in, all lines end in.
+use Rattle.std.specs.Prelude.{Result, Ok, Err}
 use Prim.Native.Nat.{ℕ, ◌+◌, ◌-◌, ◌/◌, ◌≤◌, ◌<◌}
 use mathlib.Core.Path.{◌≡◌, refl, sym, ◌∙◌}
 use mathlib.Core.List.{List, [], ◌∷◌, ◌++◌}
@@ -9,9 +10,8 @@ use lib.ListN.{length, get_or, take, set, length-append, length-set}
 use lib.Seq.{length-take-le, get_or-take, take-suc-set}
 use borrow.Author.Tests.{leb-true, eqb-true}
 use Rattle.tables.specs.Limits.{batch_limit, frame_limit, digit_limit}
-use Rattle.tables.specs.Checks.{◌then◌, test, refuse}
+use Rattle.tables.specs.Checks.{◌then◌, test, refuse, Fine}
 use Rattle.tables.specs.declared.refusal.Refusal.{Refusal}
-use Rattle.tables.specs.declared.refusal.Checked.TheVariants.{Fine, Refused}
 use Rattle.tables.proofs.Accepted.{held, then_first, then_second}
 use Rattle.batch_parts.specs.Parts.{part}
 use Rattle.batch_frame.specs.Frames.{kind, end_of, frame_check}
@@ -23,9 +23,6 @@ use Rattle.text_line_in.specs.Lines.{line_check}
 use Rattle.text_first_line.specs.FirstLine.{line_end, line_at}
 use Rattle.text_printer.specs.Printer.{take_check, Outcome, Lines, none, bad, good}
 use Rattle.text_printer.specs.Reading.{Roomy, TakenAs, RanAs}
-use Rattle.text_printer.specs.declared.Taken.{Taken}
-use Rattle.text_printer.specs.declared.Taken.TheVariants as took
-use Rattle.text_printer.specs.declared.Ran.TheVariants as ran
 use Rattle.batch_whole.specs.Whole.{whole_check}
 
 -- what a line that is taken says
@@ -69,7 +66,7 @@ module _ {s batch₀ kinds₀ batch kinds : List ℕ} {at n used : ℕ} (going :
   pub go_roomy : Roomy used batch
   go_roomy = record { within = going.within; room = omega (arith, room, going.words) }
 
-  pub go_end : length s ≤ at → RanAs s batch kinds (ran.All n used)
+  pub go_end : length s ≤ at → RanAs s batch kinds (Ok (record { frames = n; words = used }))
   go_end h = (going.back (none h), omega (arith, going.within, going.words, room), omega (arith, going.few, going.frames, places))
 
   module _ (h : at < length s) {end : ℕ} (is : end ≡ line_end s at) where
@@ -82,17 +79,17 @@ module _ {s batch₀ kinds₀ batch kinds : List ℕ} {at n used : ℕ} (going :
     pub go_most : end ≤ length s
     go_most = rw is (next_most 10 s at (omega (arith, h)))
 
-    module _ (after : List ℕ) (got : Taken) (e : TakenAs (part s at (end - at)) n used batch after got) where
+    module _ (after : List ℕ) (got : Result ℕ Refusal) (e : TakenAs (part s at (end - at)) n used batch after got) where
       front_long : length (take used batch) ≡ used
       front_long = length-take-le used batch (omega (arith, going.within, going.words, room))
 
-      pub go_stop : {r : Refusal} → got ≡ took.Refused r → RanAs s after kinds (ran.Stopped (n + 1) used r)
+      pub go_stop : {r : Refusal} → got ≡ Err r → RanAs s after kinds (Err (record { line = n + 1; before = used; why = r }))
       go_stop {r} told =
-          let refused : take_check (part s at (end - at)) n (take used batch) ≡ Refused r = rw told at e in
+          let refused : take_check (part s at (end - at)) n (take used batch) ≡ Err r = rw told at e in
           rw front_long at (going.back (bad h (rw line_is at refused)))
 
-      module _ {w : ℕ} (told : got ≡ took.Words w) where
-        took_words : TakenAs (part s at (end - at)) n used batch after (took.Words w)
+      module _ {w : ℕ} (told : got ≡ Ok w) where
+        took_words : TakenAs (part s at (end - at)) n used batch after (Ok w)
         took_words = rw told at e
 
         fine : take_check (line_at s at) n (take used batch) ≡ Fine

@@ -10,8 +10,7 @@ use lib.ListN.{length, get_or, drop, length-append, length-drop, get_or-append}
 use lib.Seq.{take-append-le, drop-append-le}
 use borrow.Author.Tests.{lt-ltb, le-leb}
 use Rattle.tables.specs.Limits.{step_limit, tree_limit, frame_limit}
-use Rattle.tables.specs.Checks.{test, refuse}
-use Rattle.tables.specs.declared.refusal.Checked.TheVariants.{Fine}
+use Rattle.tables.specs.Checks.{test, refuse, Fine}
 use Rattle.tables.proofs.Accepted.{then_first, then_second, then_both}
 use Rattle.batch_parts.specs.Parts.{part, count, count_check, steps_check, nodes_check}
 use Rattle.batch_frame.specs.Frames.{kind, tree_at, kind_right, rest_check, frame_check, end_of}

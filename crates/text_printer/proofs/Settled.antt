@@ -1,4 +1,6 @@
 -- The promise of printing fixes its answer and its buffer.
+use Rattle.std.specs.Prelude.{Result}
+use Rattle.tables.specs.declared.refusal.Refusal.{Refusal}
 use Prim.Native.Nat.{ℕ, zero, suc, ◌<◌}
 use mathlib.Core.Path.{◌≡◌, refl}
 use mathlib.Core.List.{List}
@@ -10,7 +12,6 @@ use Rattle.order.proofs.Places.{by_kind}
 use Rattle.batch_check.specs.Batches.{batch_of}
 use Rattle.batch_plan.proofs.Laws.{word_one}
 use Rattle.text_plan_lines.specs.Printing.{plan_text}
-use Rattle.outcomes.specs.declared.texts.Printed.{Printed}
 use Rattle.text_plan_lines.proofs.Promise.{answer_one}
 use Rattle.batch_mode.specs.Modes.{relation_of}
 use Rattle.batch_mode.specs.declared.Mode.{Mode}
@@ -72,7 +73,7 @@ prints_one (misnamed {r = q} x e) (misnamed {r = r} y f) =
     rw why
 
 -- two answers with their buffers that meet the promise are the same
-pub printed_one : (s before a b : List ℕ) (x y : Printed) → PrintedAs s before a x → PrintedAs s before b y → (x ≡ y) × (a ≡ b)
+pub printed_one : (s before a b : List ℕ) (x y : Result ℕ Refusal) → PrintedAs s before a x → PrintedAs s before b y → (x ≡ y) × (a ≡ b)
 printed_one s before a b x y f g =
     let text : g.text ≡ f.text = prints_one g.prints f.prints in
     answer_one f.text before a b x y f.answered (rw text at g.answered)

@@ -1,4 +1,5 @@
 -- Taking one line: its words behind those in use, then its checks as a frame.
+use Rattle.std.specs.Prelude.{Result, Ok, Err}
 use Prim.Native.Nat.{ℕ, ◌+◌, ◌-◌, ◌/◌, ◌≤◌, min}
 use mathlib.Core.Path.{◌≡◌, refl, sym, ◌∙◌, ap}
 use mathlib.Core.List.{List, ◌++◌, append_assoc}
@@ -8,30 +9,26 @@ use native.Mathlib.Omega.{arith}
 use lib.ListN.{length, take, drop, length-append, length-take, length-drop}
 use lib.Seq.{take_at, length-take-le}
 use Rattle.tables.specs.Limits.{digit_limit}
-use Rattle.tables.specs.Checks.{refuse, output_check}
+use Rattle.tables.specs.Checks.{refuse, output_check, Checked, Fine}
+use Rattle.tables.specs.Refusals.{numbered}
 use Rattle.tables.specs.declared.refusal.Refusal.{Refusal}
-use Rattle.tables.specs.declared.refusal.Checked.{Checked}
-use Rattle.tables.specs.declared.refusal.Checked.TheVariants.{Fine, Refused}
 use Rattle.tables.proofs.Accepted.{then_first}
 use Rattle.check_size.proofs.Branches.{output_long}
 use Rattle.text_digits.specs.Digits.{words_of}
 use Rattle.text_digits.proofs.Returning.{length-words_of}
 use Rattle.text_line_in.specs.Lines.{line_check, ReadAs}
-use Rattle.outcomes.specs.declared.texts.Parsed.{Parsed}
-use Rattle.outcomes.specs.declared.texts.Parsed.TheVariants as parsed
 use Rattle.text_line_in.proofs.Promise.{line_short}
 use Rattle.text_first_line.proofs.Lines.{Only, line_only}
 use Rattle.text_printer.specs.Printer.{take_check}
 use Rattle.text_printer.specs.Reading.{Roomy, TakenAs}
-use Rattle.text_printer.specs.declared.Taken.TheVariants as took
 use Rattle.batch_whole.specs.Whole.{whole_check}
 
-never : {A : Type 0} (r : Refusal) → Fine ≡ Refused r → A
+never : {A : Type 0} (r : Refusal) → Fine ≡ Err r → A
 never r e = let z : ◌≡◌ {A = ℕ} 0 1 = cc in absurd (omega arith)
 
 -- what reading a line promises of an answer that is taken apart
-pub read_words : (l : List ℕ) (line : ℕ) (before after : List ℕ) (got : Parsed) → ReadAs l line before after got → {m : ℕ} → got ≡ parsed.Words m
-    → ReadAs l line before after (parsed.Words m)
+pub read_words : (l : List ℕ) (line : ℕ) (before after : List ℕ) (got : Result ℕ Refusal) → ReadAs l line before after got → {m : ℕ} → got ≡ Ok m
+    → ReadAs l line before after (Ok m)
 read_words l line before after got e told = rw told at e
 
 module _ (l : List ℕ) (n used : ℕ) (batch : List ℕ) (roomy : Roomy used batch) where
@@ -46,18 +43,18 @@ module _ (l : List ℕ) (n used : ℕ) (batch : List ℕ) (roomy : Roomy used ba
 
   module _ (after : List ℕ) where
     -- a line that is not read is malformed
-    pub line_refused : (got : Parsed) → ReadAs l (n + 1) (take (length batch - used) (drop used batch)) after got → {r : Refusal} → got ≡ parsed.Refused r
+    pub line_refused : (got : Result ℕ Refusal) → ReadAs l (n + 1) (take (length batch - used) (drop used batch)) after got → {r : Refusal} → got ≡ Err r
         → take_check l n (take used batch) ≡ refuse 13 6 (n + 1)
     unfolding take_check
-    line_refused (parsed.Words m) e told = let z : ◌≡◌ {A = ℕ} 0 1 = cc in absurd (omega arith)
-    line_refused (parsed.Refused x) e told = go (line_only l (n + 1))
+    line_refused (Ok m) e told = let z : ◌≡◌ {A = ℕ} 0 1 = cc in absurd (omega arith)
+    line_refused (Err x) e told = go (line_only l (n + 1))
       where
-        go : Only (record { number = 13; table = 6; place = n + 1 }) (line_check l (n + 1)) → take_check l n (take used batch) ≡ refuse 13 6 (n + 1)
+        go : Only (record { reason = numbered 13; table = 6; place = n + 1 }) (line_check l (n + 1)) → take_check l n (take used batch) ≡ refuse 13 6 (n + 1)
         go (inl fine) = never x (sym (rw (fine, room_fine fine) refl) ∙ e.0)
         go (inr why) = rw why refl
 
   -- a line that is read: the batch with its words
-  module _ (after : List ℕ) {m : ℕ} (e : ReadAs l (n + 1) (take (length batch - used) (drop used batch)) after (parsed.Words m)) where
+  module _ (after : List ℕ) {m : ℕ} (e : ReadAs l (n + 1) (take (length batch - used) (drop used batch)) after (Ok m)) where
     abbrev put : List ℕ
     put = take used batch ++ (after ++ drop (length batch - used) (drop used batch))
 
@@ -93,8 +90,8 @@ module _ (l : List ℕ) (n used : ℕ) (batch : List ℕ) (roomy : Roomy used ba
           let same : take (used + m - 0) (drop 0 put) ≡ take used batch ++ words_of l = rw sub-zero put_front in
           rw (line_fine, front_long) (sym (f ∙ rw same refl))
 
-      pub take_refused : {r : Refusal} → got ≡ Refused r → take_check l n (take used batch) ≡ Refused r
+      pub take_refused : {r : Refusal} → got ≡ Err r → take_check l n (take used batch) ≡ Err r
       take_refused told = checked_as ∙ told
 
-      pub take_words : got ≡ Fine → TakenAs l n used batch put (took.Words (used + m))
+      pub take_words : got ≡ Fine → TakenAs l n used batch put (Ok (used + m))
       take_words told = (checked_as ∙ told, put_long, ap (λ (x : ℕ). used + x) words_are, put_front)

@@ -1,4 +1,5 @@
 -- From what the checks and the rows give to the promise of reading; the promise fixes its answer and its buffer, and can be met for every input.
+use Rattle.std.specs.Prelude.{Result, Ok, Err}
 use Prim.Native.Nat.{ℕ, ◌*◌, ◌≤◌, ◌<◌}
 use mathlib.Core.Path.{◌≡◌, refl, sym, ◌∙◌, ap}
 use mathlib.Core.Bool.{true}
@@ -9,10 +10,8 @@ use lib.ListN.{length, drop}
 use borrow.Author.Tests.{leb-true, le-leb, lt-leb}
 use Rattle.tables.specs.Limits.{tree_limit}
 use Rattle.tables.specs.Words.{nodes}
-use Rattle.tables.specs.Checks.{test, refuse, output_check}
+use Rattle.tables.specs.Checks.{test, refuse, output_check, Checked, Fine}
 use Rattle.tables.specs.declared.refusal.Refusal.{Refusal}
-use Rattle.tables.specs.declared.refusal.Checked.{Checked}
-use Rattle.tables.specs.declared.refusal.Checked.TheVariants.{Fine, Refused}
 use Rattle.tables.proofs.Accepted.{never, held, then_first, then_second, output_room}
 use Rattle.text_xml_form.specs.Scan.{right_tags}
 use Rattle.text_xml_form.specs.Rows.{rows_of, slashes}
@@ -20,8 +19,6 @@ use Rattle.text_xml_in.specs.Reading.{tags_check, read_tree_check, ReadTree}
 use Rattle.text_xml_in.specs.Rest.{rest_check, nodes_check, RowsRead}
 use Rattle.text_xml_in.specs.Rows.{Fillable}
 use Rattle.text_xml_in.proofs.Slashes.{rows_slashes}
-use Rattle.outcomes.specs.declared.texts.Parsed.{Parsed}
-use Rattle.outcomes.specs.declared.texts.Parsed.TheVariants as parsed
 
 -- the number of nodes, then the room
 module _ (k room : ℕ) {answer : Checked} where
@@ -56,10 +53,10 @@ module _ (s before : List ℕ) (right : right_tags s ≡ true) {k : ℕ} (is : k
         let room = then_second (test (leb k tree_limit) (refuse 2 3 0)) (output_check (2 * k) (length before)) (sym e ∙ f) in
         record { right = right; few = rw nodes_are rows_few; room = rw words_are (output_room (2 * k) (length before) room) }
 
-    pub rows_put : {after : List ℕ} → after ≡ rows_of s ++ drop (length (rows_of s)) before → RowsRead s before after (parsed.Words (2 * k))
+    pub rows_put : {after : List ℕ} → after ≡ rows_of s ++ drop (length (rows_of s)) before → RowsRead s before after (Ok (2 * k))
     rows_put a = (asked ∙ f, sym words_are, rw (← words_are) a)
 
-  pub rows_off : {r : Refusal} → got ≡ Refused r → RowsRead s before before (parsed.Refused r)
+  pub rows_off : {r : Refusal} → got ≡ Err r → RowsRead s before before (Err r)
   rows_off f = (asked ∙ f, refl)
 
 -- the text first
@@ -69,29 +66,29 @@ module _ (s : List ℕ) {got : Checked} (e : got ≡ tags_check s) where
   tags_right f = held (right_tags s) _ (sym e ∙ f)
 
   module _ (before : List ℕ) where
-    pub read_on : got ≡ Fine → (after : List ℕ) (answer : Parsed) → RowsRead s before after answer → ReadTree s before after answer
+    pub read_on : got ≡ Fine → (after : List ℕ) (answer : Result ℕ Refusal) → RowsRead s before after answer → ReadTree s before after answer
     unfolding read_tree_check rest_check
-    read_on f after (parsed.Refused r) p = (rw (← e, f) p.0, p.1)
-    read_on f after (parsed.Words n) p = (rw (← e, f) p.0, p.1, p.2)
+    read_on f after (Err r) p = (rw (← e, f) p.0, p.1)
+    read_on f after (Ok n) p = (rw (← e, f) p.0, p.1, p.2)
 
-    pub read_off : {r : Refusal} → got ≡ Refused r → ReadTree s before before (parsed.Refused r)
+    pub read_off : {r : Refusal} → got ≡ Err r → ReadTree s before before (Err r)
     unfolding read_tree_check
     read_off f = (rw (← e, f), refl)
 
 -- two answers with their buffers that meet the promise are the same
 module _ (s before a b : List ℕ) where
-  pub read_one : (x y : Parsed) → ReadTree s before a x → ReadTree s before b y → (x ≡ y) × (a ≡ b)
-  read_one (parsed.Refused q) (parsed.Refused r) f g = let e = f.0 in let h = g.0 in ((cc), f.1 ∙ sym g.1)
-  read_one (parsed.Refused q) (parsed.Words n) f g = never f.0 g.0
-  read_one (parsed.Words m) (parsed.Refused r) f g = never g.0 f.0
-  read_one (parsed.Words m) (parsed.Words n) f g =
+  pub read_one : (x y : Result ℕ Refusal) → ReadTree s before a x → ReadTree s before b y → (x ≡ y) × (a ≡ b)
+  read_one (Err q) (Err r) f g = let e = f.0 in let h = g.0 in ((cc), f.1 ∙ sym g.1)
+  read_one (Err q) (Ok n) f g = never f.0 g.0
+  read_one (Ok m) (Err r) f g = never g.0 f.0
+  read_one (Ok m) (Ok n) f g =
       let same = f.1 ∙ sym g.1 in
-      (ap parsed.Words same, f.2 ∙ ap (λ (k : ℕ). rows_of s ++ drop k before) same ∙ sym g.2)
+      (ap Ok same, f.2 ∙ ap (λ (k : ℕ). rows_of s ++ drop k before) same ∙ sym g.2)
 
 -- the promise can be met: for every text and buffer there are an answer and a buffer that do
-pub read_some : (s before : List ℕ) → (answer : Parsed) × (after : List ℕ) × ReadTree s before after answer
+pub read_some : (s before : List ℕ) → (answer : Result ℕ Refusal) × (after : List ℕ) × ReadTree s before after answer
 read_some s before = go (read_tree_check s (length before)) refl
   where
-    go : (c : Checked) → read_tree_check s (length before) ≡ c → (answer : Parsed) × (after : List ℕ) × ReadTree s before after answer
-    go Fine e = (parsed.Words (length (rows_of s)), rows_of s ++ drop (length (rows_of s)) before, (e, refl, refl))
-    go (Refused r) e = (parsed.Refused r, before, (e, refl))
+    go : (c : Checked) → read_tree_check s (length before) ≡ c → (answer : Result ℕ Refusal) × (after : List ℕ) × ReadTree s before after answer
+    go (Ok tt) e = (Ok (length (rows_of s)), rows_of s ++ drop (length (rows_of s)) before, (e, refl, refl))
+    go (Err r) e = (Err r, before, (e, refl))

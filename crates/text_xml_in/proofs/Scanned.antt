@@ -10,9 +10,7 @@ use lib.Dec.{eqb}
 use lib.ListN.{length, get_or, take}
 use lib.Seq.{take-length}
 use Rattle.tables.specs.Limits.{word_limit}
-use Rattle.tables.specs.Checks.{refuse}
-use Rattle.tables.specs.declared.refusal.Checked.{Checked}
-use Rattle.tables.specs.declared.refusal.Checked.TheVariants.{Fine}
+use Rattle.tables.specs.Checks.{refuse, Checked, Fine}
 use Rattle.text_parts.specs.Scans.{scanned}
 use Rattle.text_parts.proofs.Starts.{lasting_at, lasting-whole}
 use Rattle.text_xml_form.specs.Scan.{stand, fits, stage_on, number_on, depth_on, goes, next, on, ends, standing, right_tags, longest_tags}

@@ -1,6 +1,6 @@
 -- The slashes of a text: as far as they are counted, and that a right text has one for each row.
 use Prim.Native.Nat.{ℕ, suc, ◌+◌, ◌*◌, ◌<◌, ◌≤◌}
-use mathlib.Core.Path.{◌≡◌, ap, ◌∙◌}
+use mathlib.Core.Path.{◌≡◌, refl, ap, ◌∙◌}
 use mathlib.Core.Bool.{Bool, true, false, cond}
 use mathlib.Core.List.{List, ◌∷◌}
 use native.Mathlib.Numerals.{add-one}
@@ -8,6 +8,7 @@ use native.Mathlib.Omega.{arith}
 use lib.Dec.{eqb}
 use lib.ListN.{length, get_or, drop, drop_of_length-le}
 use lib.Seq.{drop-cons}
+use mir.Val.{bool_byte}
 use Rattle.text_xml_form.specs.Elements.{tree_of}
 use Rattle.text_xml_form.specs.Scan.{right_tags}
 use Rattle.text_xml_form.specs.Rows.{rows_of, slashes}
@@ -22,6 +23,11 @@ slashes_first c s = go (eqb c 47)
     go true = omega arith
     go false = omega arith
 
+-- a slash counts one
+slash-one : (t : Bool) → bool_byte t ≡ cond t 1 0
+slash-one true = refl
+slash-one false = refl
+
 -- the text before i has k slashes
 pub record Counted (s : List ℕ) (i k : ℕ) : Type 0 where
   pub within : i ≤ length s
@@ -32,9 +38,12 @@ pub counted_start : (s : List ℕ) → Counted s 0 0
 counted_start s = record { within = omega arith; few = omega arith; left = omega arith }
 
 module _ {s : List ℕ} {i k : ℕ} (at : Counted s i k) where
-  module _ (h : i < length s) {c b : ℕ} (is : c ≡ get_or s i 0) (one : b ≡ cond (eqb c 47) 1 0) where
+  module _ (h : i < length s) {c b : ℕ} (is : c ≡ get_or s i 0) (one : b ≡ bool_byte (eqb c 47)) where
+    slash-worth : b ≡ cond (eqb c 47) 1 0
+    slash-worth = one ∙ slash-one (eqb c 47)
+
     slash-small : b ≤ 1
-    slash-small = rw one (go (eqb c 47))
+    slash-small = rw slash-worth (go (eqb c 47))
       where
         go : (t : Bool) → cond t 1 0 ≤ 1
         go true = omega arith
@@ -45,7 +54,7 @@ module _ {s : List ℕ} {i k : ℕ} (at : Counted s i k) where
 
     pub counted_next : Counted s (i + 1) (k + b)
     counted_next =
-        let rest : slashes (drop i s) ≡ b + slashes (drop (suc i) s) = ap slashes (drop-cons s i 0 h) ∙ slashes_first (get_or s i 0) (drop (suc i) s) ∙ rw (one, is) in
+        let rest : slashes (drop i s) ≡ b + slashes (drop (suc i) s) = ap slashes (drop-cons s i 0 h) ∙ slashes_first (get_or s i 0) (drop (suc i) s) ∙ rw (slash-worth, is) in
         rw add-one
         (record {
           within = h;

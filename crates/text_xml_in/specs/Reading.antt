@@ -1,14 +1,11 @@
 -- What reading a tree's tags promises.
-use Rattle.std.specs.Prelude.{ℕ, ◌≡◌, List, ◌++◌, leb, length, drop}
+use Rattle.std.specs.Prelude.{ℕ, ◌≡◌, List, ◌++◌, leb, length, drop, Result, Ok, Err}
 use Rattle.tables.specs.Limits.{tree_limit}
 use Rattle.tables.specs.Words.{nodes}
-use Rattle.tables.specs.Checks.{◌then◌, test, refuse, output_check}
-use Rattle.tables.specs.declared.refusal.Checked.{Checked}
-use Rattle.tables.specs.declared.refusal.Checked.TheVariants.{Fine, Refused}
+use Rattle.tables.specs.Checks.{◌then◌, test, refuse, output_check, Checked, Fine}
+use Rattle.tables.specs.declared.refusal.Refusal.{Refusal}
 use Rattle.text_xml_form.specs.Scan.{right_tags, longest_tags}
 use Rattle.text_xml_form.specs.Rows.{rows_of}
-use Rattle.outcomes.specs.declared.texts.Parsed.{Parsed}
-use Rattle.outcomes.specs.declared.texts.Parsed.TheVariants as parsed
 
 -- 14 for text that doesn't fit: table 7, the length of its longest start that some right text has
 unfoldable pub tags_check : List ℕ → Checked
@@ -22,9 +19,9 @@ read_tree_check s room =
     then output_check (length (rows_of s)) room
 
 -- what reading tags promises: the tree that they mean at the front, all behind it stays
-abbrev pub ReadTree : List ℕ → List ℕ → List ℕ → Parsed → Type 0
-ReadTree s before after (parsed.Refused r) = (read_tree_check s (length before) ≡ Refused r) × (after ≡ before)
-ReadTree s before after (parsed.Words n) =
+abbrev pub ReadTree : List ℕ → List ℕ → List ℕ → Result ℕ Refusal → Type 0
+ReadTree s before after (Err r) = (read_tree_check s (length before) ≡ Err r) × (after ≡ before)
+ReadTree s before after (Ok n) =
     (read_tree_check s (length before) ≡ Fine)
     × (n ≡ length (rows_of s))
     × (after ≡ rows_of s ++ drop n before)

@@ -14,10 +14,7 @@ pub(crate) const HELD_LEVELS: usize = 4096;
 pub(crate) fn innermost(row: &[u16], d: usize) -> usize
     ensures { result ≡ get_or row.now (held_at (d - 1)) 0 }
 {
-    if d == 0 {
-        return word(row, 0);
-    }
-    word(row, (d - 1) % HELD_LEVELS)
+    word(row, d.saturating_sub(1) % HELD_LEVELS)
 }
 
 // Behind a byte at depth d: a start tag's label is noted, if it will still be held at depth e.
@@ -62,14 +59,12 @@ fn recall(s: &[u8], i: usize, d: usize, row: &mut [u16])
     let mut q = 0;
     let mut v = 0;
     let mut e = 0;
-    let mut j = 0;
-    while j < i {
+    for j in 0..i {
         let c = byte(s, j);
         note(q, v, c, e, d, row);
         e = depth_on(s, q, c, e);
         v = number_on(v, c);
         q = stage_on(q, c);
-        j += 1;
     }
 }
 
@@ -86,10 +81,7 @@ fn hold_innermost(s: &[u8], i: usize, q: usize, d: usize, low: usize, row: &mut 
         return low;
     }
     recall(s, i, d, row);
-    if d < HELD_LEVELS {
-        return 0;
-    }
-    d - HELD_LEVELS
+    d.saturating_sub(HELD_LEVELS)
 }
 
 // One byte on, which goes on: the lowest level that is held.

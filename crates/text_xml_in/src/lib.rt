@@ -14,41 +14,34 @@ ghost use Rattle.text_xml_in.specs.Rest.{nodes_check, RowsRead};
 use crate::rows::{fill, slashes};
 use crate::scan::tags_checked;
 use check_size::output;
-use outcomes::texts::Parsed;
 use tables::limits::TREE_LIMIT;
-use tables::refusal::{Checked, refused};
+use tables::refusal::{Reason, Refusal, refused};
 
 // So many nodes, then room for their words.
-fn nodes_checked(k: usize, room: usize) -> Checked
+fn nodes_checked(k: usize, room: usize) -> Result<(), Refusal>
     ensures { result ≡ nodes_check k room }
 {
     if TREE_LIMIT < k {
-        return refused(2, 3, 0);
+        return refused(Reason::Limit, 3, 0);
     }
     output(2 * k, room)
 }
 
 // The rows of a right text, if they are few enough and there is room for them.
-fn read_rows(s: &[u8], words: &mut [u16]) -> Parsed
+fn read_rows(s: &[u8], words: &mut [u16]) -> Result<usize, Refusal>
     requires { right_tags s.now ≡ true }
     ensures { RowsRead s.now words.old words.new result }
 {
     let k = slashes(s);
-    match nodes_checked(k, words.len()) {
-        Checked::Fine => {
-            fill(s, words);
-            Parsed::Words(2 * k)
-        }
-        Checked::Refused(r) => Parsed::Refused(r),
-    }
+    nodes_checked(k, words.len())?;
+    fill(s, words);
+    Ok(2 * k)
 }
 
 // From a tree's tags to its words.
-pub fn read_tree(s: &[u8], words: &mut [u16]) -> Parsed
+pub fn read_tree(s: &[u8], words: &mut [u16]) -> Result<usize, Refusal>
     ensures { ReadTree s.now words.old words.new result }
 {
-    match tags_checked(s) {
-        Checked::Fine => read_rows(s, words),
-        Checked::Refused(r) => Parsed::Refused(r),
-    }
+    tags_checked(s)?;
+    read_rows(s, words)
 }

@@ -1,5 +1,5 @@
 // The rows of a right text.
-ghost use Rattle.std.specs.Prelude.{◌+◌, ◌*◌, ◌<◌, ◌≡◌, cond, ◌++◌, eqb, length, set, drop};
+ghost use Rattle.std.specs.Prelude.{◌+◌, ◌*◌, ◌<◌, ◌≡◌, ◌++◌, length, set, drop};
 ghost use Rattle.tables.specs.Limits.{word_limit};
 ghost use Rattle.text_xml_form.specs.Rows.{has_row, rows_of, slashes as slashesOf};
 ghost use Rattle.text_xml_in.specs.Rows.{put_on, count_on, inside_on, Puttable, Fillable};
@@ -7,26 +7,14 @@ ghost use Rattle.text_xml_in.specs.Rows.{put_on, count_on, inside_on, Puttable, 
 use crate::stage::{number_on, stage_on};
 use tables::words::{byte, first_word};
 
-// A slash counts one.
-fn slash(c: usize) -> usize
-    ensures { result ≡ cond (eqb c 47) 1 0 }
-{
-    if c == 47 {
-        return 1;
-    }
-    0
-}
-
 // How many slashes a text has: each element has one.
 pub(crate) fn slashes(s: &[u8]) -> usize
     ensures { result ≡ slashesOf s.now }
 {
     let n = s.len();
     let mut k = 0;
-    let mut i = 0;
-    while i < n {
-        k += slash(byte(s, i));
-        i += 1;
+    for i in 0..n {
+        k += usize::from(byte(s, i) == 47);
     }
     k
 }
@@ -41,16 +29,11 @@ fn put_row(words: &mut [u16], k: usize, u: usize, v: usize)
 }
 
 // A byte ends a start tag or a short tag.
+#[tactic(auto, unfolding(text_xml_form::specs::Rows::has_row))]
 fn has_row(q: usize, c: usize) -> bool
     ensures { result ≡ has_row q c }
 {
-    if c != 62 {
-        return false;
-    }
-    if q == 3 {
-        return true;
-    }
-    q == 2
+    c == 62 && (q == 2 || q == 3)
 }
 
 // Behind a byte that ends such a tag row k is put; how many there are.
@@ -91,14 +74,12 @@ pub(crate) fn fill(s: &[u8], words: &mut [u16])
     let mut v = 0;
     let mut u = 0;
     let mut k = 0;
-    let mut i = 0;
-    while i < n {
+    for i in 0..n {
         let c = byte(s, i);
         let inside = inside_on(q, c, u, k, words);
         k = put_on(q, v, c, u, k, words);
         u = inside;
         v = number_on(v, c);
         q = stage_on(q, c);
-        i += 1;
     }
 }

@@ -7,13 +7,11 @@ ghost use Rattle.text_xml_form.specs.Scan.{is_digit, further as furtherBy, leads
 use tables::limits::WORD_LIMIT;
 
 // A digit.
+#[tactic(auto, unfolding(text_xml_form::specs::Scan::is_digit))]
 fn digit(c: usize) -> bool
     ensures { result ≡ is_digit c }
 {
-    if c < 48 {
-        return false;
-    }
-    c <= 57
+    48 <= c && c <= 57
 }
 
 // A number with a digit behind it.
@@ -25,38 +23,23 @@ fn further(v: usize, c: usize) -> usize
 }
 
 // The digits of w are those that a label begins with.
+#[tactic(auto, unfolding(text_xml_form::specs::Scan::leads))]
 fn leads(w: usize, l: usize) -> bool
     ensures { result ≡ leadsTo w l }
 {
-    if w == 0 {
-        return false;
-    }
-    if w == l {
-        return true;
-    }
-    if w == l / 10 {
-        return true;
-    }
-    if w == l / 100 {
-        return true;
-    }
-    if w == l / 1000 {
-        return true;
-    }
-    w == l / 10000
+    0 < w && (w == l || w == l / 10 || w == l / 100 || w == l / 1000 || w == l / 10000)
 }
 
 // A label is 1 to 65,535.
+#[tactic(auto, unfolding(text_xml_form::specs::Elements::label_right))]
 fn label(w: usize) -> bool
     ensures { result ≡ label_right w }
 {
-    if WORD_LIMIT <= w {
-        return false;
-    }
-    0 < w
+    0 < w && w < WORD_LIMIT
 }
 
 // A byte goes on in the name of a start tag or short tag, or ends it.
+#[tactic(auto, unfolding(text_xml_form::specs::Scan::goes_further))]
 fn goes_on(v: usize, c: usize) -> bool
     requires { v < word_limit }
     ensures { result ≡ goes_further v c }
@@ -64,16 +47,11 @@ fn goes_on(v: usize, c: usize) -> bool
     if digit(c) {
         return label(further(v, c));
     }
-    if c == 62 {
-        return 0 < v;
-    }
-    if c == 47 {
-        return 0 < v;
-    }
-    false
+    (c == 62 || c == 47) && 0 < v
 }
 
 // A byte goes on in the name of the end tag of a label, or ends it.
+#[tactic(auto, unfolding(text_xml_form::specs::Scan::ends_on))]
 fn ends_on(v: usize, l: usize, c: usize) -> bool
     requires { v < word_limit }
     ensures { result ≡ ends_on v l c }
@@ -81,16 +59,11 @@ fn ends_on(v: usize, l: usize, c: usize) -> bool
     if digit(c) {
         return leads(further(v, c), l);
     }
-    if c != 62 {
-        return false;
-    }
-    if v == 0 {
-        return false;
-    }
-    v == l
+    c == 62 && 0 < v && v == l
 }
 
 // A byte goes on, at this stage and number, with d open elements, the innermost of this label.
+#[tactic(auto, unfolding(text_xml_form::specs::Scan::fits))]
 pub(crate) fn fits(q: usize, v: usize, l: usize, d: usize, c: usize) -> bool
     requires { v < word_limit }
     ensures { result ≡ fitsAt q v l d c }
@@ -111,21 +84,9 @@ pub(crate) fn fits(q: usize, v: usize, l: usize, d: usize, c: usize) -> bool
         return c == 110;
     }
     if q == 1 {
-        if c == 110 {
-            return true;
-        }
-        if c != 47 {
-            return false;
-        }
-        return 0 < d;
+        return c == 110 || (c == 47 && 0 < d);
     }
-    if q != 6 {
-        return false;
-    }
-    if c != 60 {
-        return false;
-    }
-    0 < d
+    q == 6 && c == 60 && 0 < d
 }
 
 // The stage behind a byte that goes on.
@@ -168,6 +129,7 @@ pub(crate) fn number_on(v: usize, c: usize) -> usize
 }
 
 // How many elements are open behind it: not more than there are bytes.
+#[tactic(auto, unfolding(text_xml_form::specs::Scan::depth_on))]
 pub(crate) fn depth_on(s: &[u8], q: usize, c: usize, d: usize) -> usize
     requires { d < length s.now }
     ensures { result ≡ depth_on q c d }
@@ -178,11 +140,8 @@ pub(crate) fn depth_on(s: &[u8], q: usize, c: usize, d: usize) -> usize
     if q == 2 {
         return d + 1;
     }
-    if q != 5 {
-        return d;
+    if q == 5 {
+        return d.saturating_sub(1);
     }
-    if d == 0 {
-        return 0;
-    }
-    d - 1
+    d
 }

@@ -1,4 +1,5 @@
 -- From what the checks and the root's text give to the promise of writing a tree; the promise fixes its answer and its buffer.
+use Rattle.std.specs.Prelude.{Result, Ok, Err}
 use Prim.Native.Nat.{ℕ, ◌<◌, ◌≤◌}
 use mathlib.Core.Path.{◌≡◌, refl, sym, ◌∙◌, ap}
 use mathlib.Core.List.{List, ◌++◌}
@@ -8,10 +9,8 @@ use lib.ListN.{length, drop, get_or, replicate, length-replicate, get_or-replica
 use Rattle.tables.specs.Limits.{tree_limit}
 use Rattle.tables.specs.Words.{nodes, Bits16}
 use Rattle.tables.specs.Documents.{bare, Sound}
-use Rattle.tables.specs.Checks.{tree_check, output_check}
+use Rattle.tables.specs.Checks.{tree_check, output_check, Checked, Fine}
 use Rattle.tables.specs.declared.refusal.Refusal.{Refusal}
-use Rattle.tables.specs.declared.refusal.Checked.{Checked}
-use Rattle.tables.specs.declared.refusal.Checked.TheVariants.{Fine, Refused}
 use Rattle.tables.proofs.Accepted.{output_room}
 use Rattle.tables.proofs.Soundness.{accepted_nodes, accepted_some, accepted_tree}
 use Rattle.text_xml.specs.Tags.{tags_of, tree_text, tree_bytes}
@@ -20,8 +19,6 @@ use Rattle.text_xml_out.specs.Writing.{write_tree_check, WriteTree}
 use Rattle.text_xml_out.specs.Places.{Wrote}
 use Rattle.text_xml_out.specs.Links.{LinkedFrom, Linkable, Nested, Writable}
 use Rattle.text_xml_out.proofs.Places.{wrote_front}
-use Rattle.outcomes.specs.declared.texts.Printed.{Printed}
-use Rattle.outcomes.specs.declared.texts.Printed.TheVariants as printed
 
 -- rows for links in which there are none yet
 module _ (t : List ℕ) (sound : Sound (bare t)) (few : nodes t ≤ tree_limit) (n : ℕ) (room : nodes t ≤ n) where
@@ -43,7 +40,7 @@ module _ (t : List ℕ) (sound : Sound (bare t)) (few : nodes t ≤ tree_limit) 
       }
 
 -- a tree that is refused
-pub tree_refused : (t before : List ℕ) {r : Refusal} {got : Checked} → got ≡ tree_check t tree_limit 5 → got ≡ Refused r → WriteTree t before before (printed.Refused r)
+pub tree_refused : (t before : List ℕ) {r : Refusal} {got : Checked} → got ≡ tree_check t tree_limit 5 → got ≡ Err r → WriteTree t before before (Err r)
 unfolding write_tree_check
 tree_refused t before e f = (rw (sym e ∙ f), refl)
 
@@ -62,7 +59,7 @@ module _ (t : List ℕ) (fine : tree_check t tree_limit 5 ≡ Fine) (words : Bit
     unfolding write_tree_check
     checked = rw (fine, tree_bytes_lem t sound, ← counted) (sym asked)
 
-    pub room_refused : {r : Refusal} → got ≡ Refused r → WriteTree t before before (printed.Refused r)
+    pub room_refused : {r : Refusal} → got ≡ Err r → WriteTree t before before (Err r)
     room_refused f = (checked ∙ f, refl)
 
     module _ (f : got ≡ Fine) where
@@ -73,16 +70,16 @@ module _ (t : List ℕ) (fine : tree_check t tree_limit 5 ≡ Fine) (words : Bit
       unfolding tree_text
       root_writable linked = record { nested = nested linked; node = accepted_some t tree_limit 5 fine; room = omega (arith, room) }
 
-      pub root-written : {after : List ℕ} {n : ℕ} → Wrote (tags_of t 0) before 0 after n → WriteTree t before after (printed.Bytes n)
+      pub root-written : {after : List ℕ} {n : ℕ} → Wrote (tags_of t 0) before 0 after n → WriteTree t before after (Ok n)
       unfolding tree_text
       root-written e = let put = wrote_front (tags_of t 0) before e room in (checked ∙ f, put.0, put.1)
 
 -- two answers with their buffers that meet the promise are the same
 module _ (t before a b : List ℕ) where
-  pub tree_one : (x y : Printed) → WriteTree t before a x → WriteTree t before b y → (x ≡ y) × (a ≡ b)
-  tree_one (printed.Refused q) (printed.Refused r) f g = let e = f.0 in let h = g.0 in ((cc), f.1 ∙ sym g.1)
-  tree_one (printed.Refused q) (printed.Bytes n) f g = let e = f.0 in let h = g.0 in ((cc), (cc))
-  tree_one (printed.Bytes m) (printed.Refused r) f g = let e = f.0 in let h = g.0 in ((cc), (cc))
-  tree_one (printed.Bytes m) (printed.Bytes n) f g =
+  pub tree_one : (x y : Result ℕ Refusal) → WriteTree t before a x → WriteTree t before b y → (x ≡ y) × (a ≡ b)
+  tree_one (Err q) (Err r) f g = let e = f.0 in let h = g.0 in ((cc), f.1 ∙ sym g.1)
+  tree_one (Err q) (Ok n) f g = let e = f.0 in let h = g.0 in ((cc), (cc))
+  tree_one (Ok m) (Err r) f g = let e = f.0 in let h = g.0 in ((cc), (cc))
+  tree_one (Ok m) (Ok n) f g =
       let same = f.1 ∙ sym g.1 in
-      (ap printed.Bytes same, f.2 ∙ ap (λ (k : ℕ). tree_text t ++ drop k before) same ∙ sym g.2)
+      (ap Ok same, f.2 ∙ ap (λ (k : ℕ). tree_text t ++ drop k before) same ∙ sym g.2)

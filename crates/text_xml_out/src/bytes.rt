@@ -24,10 +24,8 @@ pub(crate) fn tree_bytes(t: &[u16], first: &[u16], next: &[u16]) -> usize
 {
     let n = t.len() / 2;
     let mut bytes = 0;
-    let mut v = 0;
-    while v < n {
+    for v in 0..n {
         bytes += own(digits(second_word(t, v)), word(first, v));
-        v += 1;
     }
     bytes
 }

@@ -8,9 +8,8 @@ pub(crate) fn link(t: &[u16], first: &mut [u16], next: &mut [u16])
     requires { Linkable t.now first.old next.old }
     ensures { LinkedFrom 1 t.now first.new next.new }
 {
-    let mut v = t.len() / 2;
-    while 1 < v {
-        v -= 1;
+    let n = t.len() / 2;
+    for v in (1..n).rev() {
         let u = first_word(t, v);
         next[v] = first[u];
         first[u] = v as u16;

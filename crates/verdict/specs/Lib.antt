@@ -1,3 +1,2 @@
--- What a reader must believe of the verdict is Promise; Verdict is what its inside holds, and need not be believed.
+-- What a reader must believe of the verdict.
 pub mod Promise
-pub mod Verdict

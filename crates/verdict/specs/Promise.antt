@@ -1,16 +1,14 @@
 -- What the verdict promises, by cases on the answer: r is the read, u the update, and the output is held before and after.
-use Rattle.std.specs.Prelude.{ℕ, ◌+◌, ◌*◌, ◌-◌, ◌<◌, ◌≤◌, ◌≡◌, List, length, take, drop}
+use Rattle.tables.specs.Checks.{Fine}
+use Rattle.std.specs.Prelude.{ℕ, ◌+◌, ◌*◌, ◌-◌, ◌<◌, ◌≤◌, ◌≡◌, List, length, take, drop, Option, Some, None, Result, Ok, Err}
 use Rattle.tables.specs.Words.{steps, nodes}
 use Rattle.tables.specs.declared.refusal.Refusal.{Refusal}
-use Rattle.tables.specs.declared.refusal.Checked.TheVariants.{Fine, Refused}
 use Rattle.conflict.specs.Conflict.{Update, pattern, Witness, Conflict}
-use Rattle.outcomes.specs.declared.verdicts.Verdict.{Verdict}
-use Rattle.outcomes.specs.declared.verdicts.Verdict.TheVariants.{Clear, Conflict as Found, Refused as NotJudged}
 use Rattle.check_verdict.specs.Order.{verdict_check}
 
 -- refused: the order gives this refusal, and the output is as it was
 pub record IsRefused (r : List ℕ) (u : Update) (before after : List ℕ) (why : Refusal) : Type 0 where
-  pub given : verdict_check r u (length before) ≡ Refused why
+  pub given : verdict_check r u (length before) ≡ Err why
   pub kept : after ≡ before
 
 -- clear: no tree shows a difference, and the output is as it was
@@ -31,13 +29,13 @@ pub record IsConflict (r : List ℕ) (u : Update) (before after : List ℕ) (n :
   pub behind : drop (2 * n) after ≡ drop (2 * n) before
 
 -- what the node verdict promises
-abbrev pub NodeVerdict : List ℕ → Update → List ℕ → List ℕ → Verdict → Type 0
-NodeVerdict r u before after (NotJudged why) = IsRefused r u before after why
-NodeVerdict r u before after Clear = IsClear r u before after
-NodeVerdict r u before after (Found n) = IsConflict r u before after n
+abbrev pub NodeVerdict : List ℕ → Update → List ℕ → List ℕ → Result (Option ℕ) Refusal → Type 0
+NodeVerdict r u before after (Err why) = IsRefused r u before after why
+NodeVerdict r u before after (Ok None) = IsClear r u before after
+NodeVerdict r u before after (Ok (Some n)) = IsConflict r u before after n
 
 -- the witness's node count, 0 for none
-abbrev pub witness_nodes : Verdict → ℕ
-witness_nodes (NotJudged why) = 0
-witness_nodes Clear = 0
-witness_nodes (Found n) = n
+abbrev pub witness_nodes : Result (Option ℕ) Refusal → ℕ
+witness_nodes (Err why) = 0
+witness_nodes (Ok None) = 0
+witness_nodes (Ok (Some n)) = n

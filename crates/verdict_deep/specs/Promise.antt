@@ -1,9 +1,8 @@
 -- What the deep verdict promises, by cases on the answer: r is the read, u the update.
-use Rattle.std.specs.Prelude.{ℕ, ◌≡◌, List}
-use Rattle.tables.specs.declared.refusal.Checked.TheVariants.{Fine, Refused}
+use Rattle.tables.specs.declared.refusal.Refusal.{Refusal}
+use Rattle.tables.specs.Checks.{Fine}
+use Rattle.std.specs.Prelude.{ℕ, ◌≡◌, List, Bool, true, false, Result, Ok, Err}
 use Rattle.conflict.specs.Conflict.{Update, Deep}
-use Rattle.outcomes.specs.declared.verdicts.Deeply.{Deeply}
-use Rattle.outcomes.specs.declared.verdicts.Deeply.TheVariants.{No, Yes, Refused as NotDeep}
 use Rattle.check_verdict.specs.Order.{deep_check}
 
 -- no: neither a node conflict nor, in any tree, an update point at or below a node that the read selects
@@ -17,7 +16,7 @@ pub record IsYes (r : List ℕ) (u : Update) : Type 0 where
   pub some : Deep r u
 
 -- what the deep verdict promises
-abbrev pub DeepVerdict : List ℕ → Update → Deeply → Type 0
-DeepVerdict r u (NotDeep why) = deep_check r u ≡ Refused why
-DeepVerdict r u No = IsNo r u
-DeepVerdict r u Yes = IsYes r u
+abbrev pub DeepVerdict : List ℕ → Update → Result Bool Refusal → Type 0
+DeepVerdict r u (Err why) = deep_check r u ≡ Err why
+DeepVerdict r u (Ok false) = IsNo r u
+DeepVerdict r u (Ok true) = IsYes r u

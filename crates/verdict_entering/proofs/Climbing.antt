@@ -1,18 +1,17 @@
 -- Climbing an inserted tree: what a stored byte changes, when the row of a state is whole, and that the root answers from which states the read enters.
 use Prim.Native.Nat.{ℕ, suc, pred, ◌+◌, ◌-◌, ◌<◌, ◌≤◌}
 use mathlib.Core.Path.{◌≡◌, refl, sym, ◌∙◌}
-use mathlib.Core.Bool.{Bool, true, false, not, ◌&&◌, false≢true, or-true}
+use mathlib.Core.Bool.{Bool, true, false, ◌&&◌, false≢true, or-true}
 use mathlib.Core.List.{List}
 use mathlib.Core.Logic.{◌≢◌}
 use native.Mathlib.Decide.{dec_le, ℕ_discrete}
-use native.Mathlib.Numerals.{add-one}
 use native.Mathlib.Omega.{arith}
 use lib.Dec.{eqb}
 use lib.ListN.{length, get_or, set, length-set}
 use lib.Seq.{get_or-set_same, get_or-set_other}
-use borrow.Author.Tests.{eq-eqb, ne_eqb, eqb-true, not-true, not-false}
+use borrow.Author.Tests.{eq-eqb, eqb-true}
 use Rattle.tables.specs.Limits.{step_limit, word_limit}
-use Rattle.tables.specs.Words.{steps, label, nodes, parent, tag}
+use Rattle.tables.specs.Words.{steps, nodes, parent, tag}
 use Rattle.selection.specs.Ways.{up, takes, stays, last}
 use Rattle.selection.proofs.Up.{Up, top, node, up_is, up_node, up_top}
 use Rattle.selection.proofs.Somewhere.{Somewhere, of-somewhere, to_somewhere}
@@ -22,37 +21,8 @@ use Rattle.conflict.proofs.Crossing.{Over, cut, lands, passes, of-over, to_over}
 use Rattle.verdict_entering.specs.Climbing.{Fitting, has, leaves, Climb, Filled, Clear, Reached, Climbed}
 use Rattle.verdict_entering.specs.Climbing as climbing
 
-module _ (p : List ℕ) (i x l : ℕ) (e : x ≡ label p i) where
-  pub takes-any : x ≡ 0 → true ≡ takes p i l
-  takes-any z = rw (← e, eq-eqb x 0 z)
-
-  pub takes-name : (x ≡ 0 → ⊥) → eqb x l ≡ takes p i l
-  takes-name n = rw (← e, ne_eqb x 0 n)
-
 pub holds_is : {y : ℕ} (row : List ℕ) (v : ℕ) → y ≡ get_or row v 0 → eqb y 1 ≡ has row v
 holds_is row v e = rw e
-
-module _ (r x : List ℕ) (k : ℕ) (row : List ℕ) (v : ℕ) {first : Bool} (e : first ≡ has row v) where
-  pub lands_not : not first ≡ true → false ≡ (has row v && takes r (suc k) (tag x v))
-  lands_not h = rw (← e, not-true first h)
-
-  pub lands_is : {l : ℕ} {second : Bool} → not first ≡ false → l ≡ tag x v → second ≡ takes r (k + 1) l → second ≡ (has row v && takes r (suc k) (tag x v))
-  lands_is h d f = rw (← e, not-false first h, ← d, ← add-one k, f)
-
-  pub passes_not : not first ≡ true → false ≡ (has row v && stays r false k)
-  passes_not h = rw (← e, not-true first h)
-
-  pub passes_is : {second : Bool} → not first ≡ false → second ≡ stays r false k → second ≡ (has row v && stays r false k)
-  passes_is h d = rw (← e, not-false first h, d)
-
-module _ (r x : List ℕ) (k : ℕ) (above own : List ℕ) (v : ℕ) {first : Bool} (e : first ≡ (has above v && takes r (suc k) (tag x v))) where
-  pub leaves_lands : first ≡ true → true ≡ leaves r x k above own v
-  unfolding leaves
-  leaves_lands h = rw (← e, h)
-
-  pub leaves_passes : {second : Bool} → first ≡ false → second ≡ (has own v && stays r false k) → second ≡ leaves r x k above own v
-  unfolding leaves
-  leaves_passes h d = rw (← e, h, d)
 
 -- a node stored in a row
 module _ (row : List ℕ) (u : ℕ) where

@@ -1,19 +1,19 @@
 -- The bytes of the states: what an accepted read and tree give, and what is written from the rows.
+use Rattle.std.specs.Prelude.{Err}
 use Prim.Native.Nat.{ℕ, suc, ◌+◌, ◌<◌, ◌≤◌}
 use mathlib.Core.Path.{◌≡◌, refl, sym, ◌∙◌}
-use mathlib.Core.Bool.{Bool, true, false}
+use mathlib.Core.Bool.{Bool, true, false, cond}
 use mathlib.Core.List.{List}
 use native.Mathlib.Decide.{ℕ_discrete}
 use native.Mathlib.Omega.{arith}
 use lib.ListN.{length, get_or, set, length-set, replicate, length-replicate, get_or-replicate}
 use lib.Seq.{ext_get_or, get_or-set_same, get_or-set_other}
+use mir.Val.{bool_byte}
 use borrow.Author.Tests.{lt-ltb, le-ltb}
 use Rattle.tables.specs.Limits.{step_limit, tree_limit}
 use Rattle.tables.specs.Words.{nodes}
 use Rattle.tables.specs.declared.refusal.Refusal.{Refusal}
-use Rattle.tables.specs.declared.refusal.Checked.{Checked}
-use Rattle.tables.specs.declared.refusal.Checked.TheVariants.{Fine, Refused}
-use Rattle.tables.specs.Checks.{where_fine, each, size_check, pattern_check, node_check, tree_check}
+use Rattle.tables.specs.Checks.{where_fine, each, size_check, pattern_check, node_check, tree_check, Checked, Fine}
 use Rattle.tables.proofs.Accepted.{then_first, then_second}
 use Rattle.tables.proofs.Soundness.{accepted_pattern, accepted_steps, accepted_nodes, accepted_some, node_falls}
 use Rattle.tables.proofs.Branches.{fine_on, fine_off}
@@ -93,16 +93,17 @@ module _ (r x : List ℕ) (fit : Fitting r x) {before above own : List ℕ} (h :
   pub handed_clear : length own ≡ tree_limit → Clear (nodes x) own
   handed_clear room = record { room = room; none = h.none }
 
+-- a bool as a byte
+byte_is : (b : Bool) → bool_byte b ≡ cond b 1 0
+byte_is true = refl
+byte_is false = refl
+
 module _ (r x : List ℕ) where
   -- the byte of a state, from what leaves the root
   module _ (fit : Fitting r x) (k : ℕ) (before : k < last r) (above own : List ℕ) (next : Reached r x (suc k) above) (here : Reached r x k own) {b : Bool} (e : b ≡ leaves r x k above own 0) where
-    pub byte_on_lem : b ≡ true → 1 ≡ entered r x k
+    pub byte_entered : {n : ℕ} → n ≡ bool_byte b → n ≡ entered r x k
     unfolding entered
-    byte_on_lem t = rw (lt-ltb k (last r) before, ← root_is r x fit k above own next here e, t)
-
-    pub byte_off : b ≡ false → 0 ≡ entered r x k
-    unfolding entered
-    byte_off t = rw (lt-ltb k (last r) before, ← root_is r x fit k above own next here e, t)
+    byte_entered h = rw (lt-ltb k (last r) before, ← root_is r x fit k above own next here e) (h ∙ byte_is b)
 
   -- from the last state on there is nothing to be written
   pub written_none : (states : List ℕ) → states ≡ tab (λ i. 0) step_limit → Written r x (last r) states
@@ -131,5 +132,5 @@ module _ {got check : Checked} (e : got ≡ check) (r x : List ℕ) {s : List �
   pub states_on : got ≡ Fine → s ≡ tab (entered r x) step_limit → s ≡ tab (where_fine check (entered r x) (λ _. 0)) step_limit
   states_on = fine_on (λ f. s ≡ tab f step_limit) e (entered r x) (λ _. 0)
 
-  pub states_off : {why : Refusal} → got ≡ Refused why → s ≡ tab (λ i. 0) step_limit → s ≡ tab (where_fine check (entered r x) (λ _. 0)) step_limit
+  pub states_off : {why : Refusal} → got ≡ Err why → s ≡ tab (λ i. 0) step_limit → s ≡ tab (where_fine check (entered r x) (λ _. 0)) step_limit
   states_off = fine_off (λ f. s ≡ tab f step_limit) e (entered r x) (λ _. 0)

@@ -1,8 +1,7 @@
 -- Inside: from which states a read enters an inserted tree: what is checked, and the byte of each state.
 use Rattle.std.specs.Prelude.{ℕ, ◌&&◌, cond, List, ltb}
 use Rattle.tables.specs.Limits.{step_limit, tree_limit}
-use Rattle.tables.specs.declared.refusal.Checked.{Checked}
-use Rattle.tables.specs.Checks.{◌then◌, pattern_check, tree_check}
+use Rattle.tables.specs.Checks.{◌then◌, pattern_check, tree_check, Checked}
 use Rattle.selection.specs.Ways.{last}
 use Rattle.conflict.specs.Crossing.{enters}
 

@@ -7,56 +7,33 @@ ghost use Rattle.std.specs.Prelude.{◌≡◌};
 ghost use Rattle.tables.specs.Limits.{step_limit};
 ghost use Rattle.tables.specs.Checks.{where_fine};
 ghost use Rattle.selection.specs.Lists.{tab};
-ghost use Rattle.verdict_entering.specs.Climbing.{Fitting, Filled};
+ghost use Rattle.verdict_entering.specs.Climbing.{Fitting};
 ghost use Rattle.verdict_entering.specs.Entering.{entering_check, entered};
 
 use crate::rows::write_states;
 use check_pattern::pattern;
 use check_tree::tree;
 use tables::limits::{STEP_LIMIT, TREE_LIMIT};
-use tables::refusal::Checked;
-
-// A byte for every node: 1.
-fn every_node() -> [u8; TREE_LIMIT]
-    ensures { Filled 1 result }
-{
-    [1; TREE_LIMIT]
-}
-
-// A byte for every node: 0.
-fn no_node() -> [u8; TREE_LIMIT]
-    ensures { Filled 0 result }
-{
-    [0; TREE_LIMIT]
-}
-
-// A byte for every state: 0.
-fn no_state() -> [u8; STEP_LIMIT]
-    ensures { result ≡ tab (λ i. 0) step_limit }
-{
-    [0; STEP_LIMIT]
-}
+use tables::refusal::Refusal;
 
 // The bytes of an accepted read and tree. A run may start at every node: that is the row of the last state.
 fn entered_states(r: &[u16], x: &[u16]) -> [u8; STEP_LIMIT]
     requires { Fitting r.now x.now }
     ensures { result ≡ tab (entered r.now x.now) step_limit }
 {
-    let mut above = every_node();
-    let mut own = no_node();
-    let mut states = no_state();
+    let mut above = [1u8; TREE_LIMIT];
+    let mut own = [0u8; TREE_LIMIT];
+    let mut states = [0u8; STEP_LIMIT];
     write_states(r, x, &mut above, &mut own, &mut states);
     states
 }
 
 // The read, then the tree.
-fn accepted(r: &[u16], x: &[u16]) -> Checked
+fn accepted(r: &[u16], x: &[u16]) -> Result<(), Refusal>
     ensures { result ≡ entering_check r.now x.now }
 {
-    match pattern(r, STEP_LIMIT, 1) {
-        Checked::Fine => tree(x, TREE_LIMIT, 3),
-        Checked::Refused(why) => Checked::Refused(why),
-    }
+    pattern(r, STEP_LIMIT, 1)?;
+    tree(x, TREE_LIMIT, 3)
 }
 
 // A byte for each state of r, 1 where it is before r's last and r, in this state at the update point, goes on to its last step at some node
@@ -65,7 +42,7 @@ pub fn entering_states(r: &[u16], x: &[u16]) -> [u8; STEP_LIMIT]
     ensures { result ≡ tab (where_fine (entering_check r.now x.now) (entered r.now x.now) (λ _. 0)) step_limit }
 {
     match accepted(r, x) {
-        Checked::Fine => entered_states(r, x),
-        Checked::Refused(_) => no_state(),
+        Ok(()) => entered_states(r, x),
+        Err(_) => [0; STEP_LIMIT],
     }
 }

@@ -22,10 +22,7 @@ fn taking(p: &[u16], i: usize, l: usize) -> bool
     ensures { result ≡ takes p.now i l }
 {
     let x = second_word(p, i);
-    if x == 0 {
-        return true;
-    }
-    x == l
+    x == 0 || x == l
 }
 
 // Whether the step after k lands on v and leaves a run in state k above it.
@@ -33,20 +30,14 @@ fn landing_above(r: &[u16], x: &[u16], k: usize, above: &[u8], v: usize) -> bool
     requires { k < word_limit }
     ensures { result ≡ (has above.now v && takes r.now (suc k) (tag x.now v)) }
 {
-    if !holds(above, v) {
-        return false;
-    }
-    taking(r, k + 1, second_word(x, v))
+    holds(above, v) && taking(r, k + 1, second_word(x, v))
 }
 
 // Whether a run passes over v in state k.
 fn passing_above(r: &[u16], k: usize, own: &[u8], v: usize) -> bool
     ensures { result ≡ (has own.now v && stays r.now false k) }
 {
-    if !holds(own, v) {
-        return false;
-    }
-    stays(r, false, k)
+    holds(own, v) && stays(r, false, k)
 }
 
 // Whether, from the row of the next state and that of state k, a run is in state k above v's label.
@@ -54,10 +45,7 @@ fn leaving(r: &[u16], x: &[u16], k: usize, above: &[u8], own: &[u8], v: usize) -
     requires { k < word_limit }
     ensures { result ≡ leaves r.now x.now k above.now own.now v }
 {
-    if landing_above(r, x, k, above, v) {
-        return true;
-    }
-    passing_above(r, k, own, v)
+    landing_above(r, x, k, above, v) || passing_above(r, k, own, v)
 }
 
 // If a run leaves node v in state k, the row has its parent.
@@ -83,9 +71,7 @@ fn climb(r: &[u16], x: &[u16], k: usize, above: &[u8], own: &mut [u8])
     requires clear { Clear (nodes x.now) own.old }
     ensures { Reached r.now x.now k own.new }
 {
-    let mut v = x.len() / 2;
-    while 1 < v {
-        v -= 1;
+    for v in (1..x.len() / 2).rev() {
         climb_node(r, x, k, above, own, v);
     }
 }
@@ -98,10 +84,7 @@ fn root_byte(r: &[u16], x: &[u16], k: usize, above: &[u8], own: &[u8]) -> u8
     requires reached_2 { Reached r.now x.now k own.now }
     ensures { result ≡ entered r.now x.now k }
 {
-    if leaving(r, x, k, above, own, 0) {
-        return 1;
-    }
-    0
+    u8::from(leaving(r, x, k, above, own, 0))
 }
 
 // The own row becomes the one of the next state, and is clear itself: the bytes of n nodes.
@@ -109,11 +92,9 @@ fn hand_over(n: usize, above: &mut [u8], own: &mut [u8])
     requires { (n ≤ length above.old) × (n ≤ length own.old) }
     ensures { Handed own.old n above.new own.new }
 {
-    let mut v = 0;
-    while v < n {
+    for v in 0..n {
         above[v] = own[v];
         own[v] = 0;
-        v += 1;
     }
 }
 
@@ -145,9 +126,7 @@ pub(crate) fn write_states(
     requires written { Written r.now x.now (last r.now) states.old }
     ensures { Written r.now x.now 0 states.new }
 {
-    let mut k = r.len() / 2 - 1;
-    while 0 < k {
-        k -= 1;
+    for k in (0..r.len() / 2 - 1).rev() {
         states[k] = state_byte(r, x, k, above, own);
     }
 }

@@ -11,9 +11,7 @@ use borrow.Author.Tests.{le-leb}
 use Rattle.tables.specs.Limits.{tree_limit, word_limit}
 use Rattle.tables.specs.Words.{nodes, parent, tag, Bits16}
 use Rattle.tables.specs.Documents.{Doc, doc, bare, mark, present, capacity, Sound}
-use Rattle.tables.specs.Checks.{document_check}
-use Rattle.tables.specs.declared.refusal.Checked.{Checked}
-use Rattle.tables.specs.declared.refusal.Checked.TheVariants.{Fine}
+use Rattle.tables.specs.Checks.{document_check, Checked, Fine}
 use Rattle.tables.proofs.Soundness.{accepted_tree, accepted_nodes, accepted_some, accepted_whole, sound_accepted}
 use Rattle.selection.specs.Lists.{tab}
 use Rattle.selection.specs.Ways.{up}

@@ -1,4 +1,6 @@
 -- What the search for a node is given once the checks are fine.
+use Rattle.std.specs.Prelude.{Ok, Option, Result}
+use Rattle.tables.specs.declared.refusal.Refusal.{Refusal}
 use Prim.Native.Nat.{ℕ, ◌<◌, ◌≤◌}
 use mathlib.Core.Path.{◌≡◌, ◌∙◌}
 use mathlib.Core.Bool.{◌&&◌}
@@ -6,21 +8,20 @@ use mathlib.Core.List.{List}
 use Rattle.tables.specs.Limits.{step_limit, tree_limit}
 use Rattle.tables.specs.Words.{steps, nodes, Bits16}
 use Rattle.tables.specs.Documents.{bare}
-use Rattle.tables.specs.Checks.{pattern_check, tree_check}
-use Rattle.tables.specs.declared.refusal.Checked.TheVariants.{Fine}
+use Rattle.tables.specs.Checks.{pattern_check, tree_check, Fine}
 use Rattle.tables.proofs.Accepted.{then_both}
 use Rattle.tables.proofs.Soundness.{accepted_nodes}
 use Rattle.selection.specs.Ways.{up, selected}
 use Rattle.selection.specs.Operations.{hits}
 use Rattle.conflict.specs.Conflict.{delete, insert}
-use Rattle.outcomes.specs.declared.verdicts.Evidence.{Evidence}
 use Rattle.check_verdict.proofs.Accepting.{read_fine, update_fine, patterns_bounded}
 use Rattle.check_evidence.specs.Order.{delete_evidence_check, insert_evidence_check}
 use Rattle.check_evidence.proofs.Accepting.{delete_patterns, delete_tree, delete_two, insert_patterns, insert_inserted, insert_tree}
 use Rattle.verdict_entering.specs.Entering.{entering_check}
 use Rattle.doc_updates.specs.Asking.{chosen, Chosen}
 use Rattle.verdict_evidence.specs.Promise.{Checks}
-use Rattle.verdict_evidence.specs.Finding.{first_of, losing, within, lost_node, gained_node, found_of}
+use Rattle.outcomes.specs.Numbers.{found_of}
+use Rattle.verdict_evidence.specs.Finding.{first_of, losing, within, lost_node, gained_node}
 use Rattle.verdict_evidence.specs.Rows.{Cut, Hung}
 use Rattle.verdict_evidence.proofs.Promise.{delete_shown, insert_shown}
 use Rattle.verdict_evidence.proofs.Firsts.{first_ext}
@@ -67,10 +68,10 @@ module _ (r p x t : List ℕ) (fine : insert_evidence_check r p x t ≡ Fine) wh
   gained_nodes = (accepted_nodes x tree_limit 3 (insert_inserted r p x t fine), accepted_nodes t tree_limit 5 (insert_tree r p x t fine))
 
 -- the promise, from the node that is found
-pub lost_promise : (r p t : List ℕ) → delete_evidence_check r p t ≡ Fine → Bits16 t → {v : ℕ} {answer : Evidence}
-    → v ≡ lost_node r p t → answer ≡ found_of v → Checks r (delete p) t answer
+pub lost_promise : (r p t : List ℕ) → delete_evidence_check r p t ≡ Fine → Bits16 t → {v : ℕ} {answer : Result (Option ℕ) Refusal}
+    → v ≡ lost_node r p t → answer ≡ Ok (found_of v) → Checks r (delete p) t answer
 lost_promise r p t fine words e f = rw (f, e) (delete_shown r p t fine words)
 
-pub gained_promise : (r p x t : List ℕ) → insert_evidence_check r p x t ≡ Fine → Bits16 x → Bits16 t → {v : ℕ} {answer : Evidence}
-    → v ≡ gained_node r p x t → answer ≡ found_of v → Checks r (insert p x) t answer
+pub gained_promise : (r p x t : List ℕ) → insert_evidence_check r p x t ≡ Fine → Bits16 x → Bits16 t → {v : ℕ} {answer : Result (Option ℕ) Refusal}
+    → v ≡ gained_node r p x t → answer ≡ Ok (found_of v) → Checks r (insert p x) t answer
 gained_promise r p x t fine tags words e f = rw (f, e) (insert_shown r p x t fine tags words)

@@ -11,8 +11,7 @@ use borrow.Author.Tests.{lt-ltb, le-ltb}
 use Rattle.tables.specs.Limits.{step_limit, tree_limit}
 use Rattle.tables.specs.Words.{steps, nodes}
 use Rattle.tables.specs.Documents.{bare}
-use Rattle.tables.specs.declared.refusal.Checked.TheVariants.{Fine}
-use Rattle.tables.specs.Checks.{where_fine}
+use Rattle.tables.specs.Checks.{where_fine, Fine}
 use Rattle.selection.specs.Lists.{tab, count, somewhere}
 use Rattle.selection.specs.Ways.{empty, up, run, last, selected}
 use Rattle.selection.proofs.Lists.{get_or-tab, count_ext, count_most}

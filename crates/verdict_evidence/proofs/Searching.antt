@@ -27,8 +27,9 @@ module _ (f : ℕ → Bool) (n : ℕ) where
         let here : f v ≡ false = sym is ∙ not in
         e ∙ rw (more, here, add-one)
 
-    pub first_none : n ≤ v → v ≡ first_of f n
+    pub first_none : n ≤ v → v ≤ n → n ≡ first_of f n
     unfolding first_from
-    first_none h =
+    first_none h k =
         let none : n - v ≡ 0 = omega arith in
-        sym (e ∙ rw none)
+        let end : v ≡ n = omega arith in
+        sym (e ∙ rw none end)

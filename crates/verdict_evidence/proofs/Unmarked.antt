@@ -1,4 +1,6 @@
 -- A proposed tree that meets no refusal, with a mark 0 for each node, is a document that meets none; the rows of a read and of a delete say what they do to it.
+use Rattle.std.specs.Prelude.{Result}
+use Rattle.tables.specs.declared.refusal.Refusal.{Refusal}
 use Prim.Native.Nat.{ℕ, zero, suc, ◌<◌, ◌≤◌}
 use mathlib.Core.Path.{◌≡◌, refl, ◌∙◌}
 use mathlib.Core.Bool.{true, cond}
@@ -11,9 +13,7 @@ use borrow.Author.Tests.{lt-ltb, le-leb, ne_eqb}
 use Rattle.tables.specs.Limits.{step_limit, tree_limit, used_limit}
 use Rattle.tables.specs.Words.{steps, nodes, parent}
 use Rattle.tables.specs.Documents.{Doc, doc, bare, present}
-use Rattle.tables.specs.Checks.{each, size_check, pattern_check, node_check, tree_check, used_right, used_check, shape_check, mark_right, mark_check, document_check, output_check}
-use Rattle.tables.specs.declared.refusal.Checked.{Checked}
-use Rattle.tables.specs.declared.refusal.Checked.TheVariants.{Fine}
+use Rattle.tables.specs.Checks.{each, size_check, pattern_check, node_check, tree_check, used_right, used_check, shape_check, mark_right, mark_check, document_check, output_check, Checked, Fine}
 use Rattle.tables.proofs.Accepted.{then_second, each_all}
 use Rattle.tables.proofs.Soundness.{accepted_some, accepted_nodes}
 use Rattle.selection.specs.Ways.{selected}
@@ -25,7 +25,6 @@ use Rattle.doc_read.specs.Reading.{ReadTables}
 use Rattle.doc_read.specs.Wanted.{stands_at, wanted_row, ReadAt}
 use Rattle.doc_updates.specs.Asking.{Chosen}
 use Rattle.doc_updates.specs.Updating.{delete_tables_check, DeleteTables}
-use Rattle.outcomes.specs.declared.updates.Deleted.{Deleted}
 use Rattle.verdict_evidence.specs.Rows.{Blank, Cut, Standing}
 
 -- numbers that are all 0
@@ -108,7 +107,7 @@ module _ (t : List ℕ) {marks : List ℕ} (blank : Blank tree_limit marks) wher
     unmarked_present : (v : ℕ) → v < nodes t → present (doc t marks (nodes t)) v ≡ true
     unmarked_present v h = rw (lt-ltb v (nodes t) h, blank.each v)
 
-    pub row_cut : (p : List ℕ) → pattern_check p step_limit 2 ≡ Fine → 1 < steps p → {after : List ℕ} {answer : Deleted}
+    pub row_cut : (p : List ℕ) → pattern_check p step_limit 2 ≡ Fine → 1 < steps p → {after : List ℕ} {answer : Result ℕ Refusal}
         → DeleteTables p (doc t marks (nodes t)) marks after answer → Cut p t after
     unfolding struck
     row_cut p pattern two d v h =

@@ -1,12 +1,10 @@
 -- Inside: the node that is answered, computed by the ways of the tree's nodes. Node 0 is never lost and never new, so 0 says that there is none.
-use Rattle.std.specs.Prelude.{ℕ, zero, suc, ◌+◌, ◌*◌, Bool, ◌&&◌, cond, List, ◌++◌, eqb, ltb}
+use Rattle.std.specs.Prelude.{ℕ, zero, suc, ◌+◌, ◌*◌, Bool, ◌&&◌, cond, List, ◌++◌, ltb}
 use Rattle.tables.specs.Words.{nodes}
 use Rattle.tables.specs.Documents.{bare}
 use Rattle.selection.specs.Lists.{count, somewhere}
 use Rattle.selection.specs.Ways.{up, sel, selected}
 use Rattle.selection.specs.Operations.{hits}
-use Rattle.outcomes.specs.declared.verdicts.Evidence.{Evidence}
-use Rattle.outcomes.specs.declared.verdicts.Evidence.TheVariants.{Same, Shown}
 
 -- the first number from v on at which f holds, of k numbers; behind them where there is none
 unfoldable pub first_from : (ℕ → Bool) → ℕ → ℕ → ℕ
@@ -47,7 +45,3 @@ new_from r p x t q = cond (ltb q (nodes t)) (new_node r p x t q) 0
 
 unfoldable pub gained_node : List ℕ → List ℕ → List ℕ → List ℕ → ℕ
 gained_node r p x t = new_from r p x t (first_of (opening r p x t) (nodes t))
-
--- a node as an answer
-unfoldable pub found_of : ℕ → Evidence
-found_of v = cond (eqb v 0) Same (Shown v)

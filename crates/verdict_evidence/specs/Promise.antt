@@ -1,12 +1,11 @@
 -- What checking a proposed tree promises, by cases on the answer: r is the read, u the update, t the proposed tree.
-use Rattle.std.specs.Prelude.{ℕ, ◌<◌, ◌≤◌, ◌≡◌, List, ◌↔◌}
+use Rattle.tables.specs.declared.refusal.Refusal.{Refusal}
+use Rattle.tables.specs.Checks.{Fine}
+use Rattle.std.specs.Prelude.{ℕ, ◌<◌, ◌≤◌, ◌≡◌, List, ◌↔◌, Option, Some, None, Result, Ok, Err}
 use Rattle.tables.specs.Words.{nodes}
 use Rattle.tables.specs.Documents.{Doc, bare}
-use Rattle.tables.specs.declared.refusal.Checked.TheVariants.{Fine, Refused}
 use Rattle.selection.specs.Embeddings.{Selects}
 use Rattle.conflict.specs.Conflict.{Update, delete, insert, after, Differs, Witness}
-use Rattle.outcomes.specs.declared.verdicts.Evidence.{Evidence}
-use Rattle.outcomes.specs.declared.verdicts.Evidence.TheVariants.{Same, Shown, Refused as NotTaken}
 use Rattle.check_evidence.specs.Order.{evidence_check}
 
 -- v is lost: the read selects it before the update and not after it
@@ -37,13 +36,13 @@ pub record IsShown (r : List ℕ) (u : Update) (t : List ℕ) (v : ℕ) : Type 0
   pub first : (w : ℕ) → w < v → Selects r (bare t) w ↔ Selects r (after u (bare t)) w
 
 -- the node, 0 for no difference
-abbrev pub shown_node : Evidence → ℕ
-shown_node (NotTaken why) = 0
-shown_node Same = 0
-shown_node (Shown v) = v
+abbrev pub shown_node : Result (Option ℕ) Refusal → ℕ
+shown_node (Err why) = 0
+shown_node (Ok None) = 0
+shown_node (Ok (Some v)) = v
 
 -- what checking a proposed tree promises
-abbrev pub Checks : List ℕ → Update → List ℕ → Evidence → Type 0
-Checks r u t (NotTaken why) = evidence_check r u t ≡ Refused why
-Checks r u t Same = IsSame r u t
-Checks r u t (Shown v) = IsShown r u t v
+abbrev pub Checks : List ℕ → Update → List ℕ → Result (Option ℕ) Refusal → Type 0
+Checks r u t (Err why) = evidence_check r u t ≡ Err why
+Checks r u t (Ok None) = IsSame r u t
+Checks r u t (Ok (Some v)) = IsShown r u t v

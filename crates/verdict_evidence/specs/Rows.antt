@@ -3,8 +3,7 @@ use Rattle.std.specs.Prelude.{ℕ, ◌+◌, ◌<◌, ◌≡◌, cond, List, leng
 use Rattle.tables.specs.Limits.{step_limit, tree_limit}
 use Rattle.tables.specs.Words.{nodes}
 use Rattle.tables.specs.Documents.{bare}
-use Rattle.tables.specs.Checks.{pattern_check, tree_check}
-use Rattle.tables.specs.declared.refusal.Checked.TheVariants.{Fine}
+use Rattle.tables.specs.Checks.{pattern_check, tree_check, Fine}
 use Rattle.selection.specs.Lists.{somewhere}
 use Rattle.selection.specs.Ways.{up}
 use Rattle.selection.specs.Operations.{hits}

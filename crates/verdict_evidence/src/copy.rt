@@ -1,11 +1,10 @@
 // One copy of the inserted tree, under a node of the proposed tree: which of its nodes the read selects.
 ghost use Rattle.std.specs.Prelude.{◌+◌, ◌*◌, ◌<◌, ◌≤◌, ◌≡◌, ◌++◌, length, drop, get_or};
-ghost use Rattle.tables.specs.Limits.{tree_limit};
 ghost use Rattle.tables.specs.Words.{nodes};
 ghost use Rattle.selection.specs.Lists.{tab};
 ghost use Rattle.selection.specs.Ways.{up};
 ghost use Rattle.verdict_evidence.specs.Finding.{first_of, picks};
-ghost use Rattle.verdict_evidence.specs.Rows.{Blank, Hung, Picked};
+ghost use Rattle.verdict_evidence.specs.Rows.{Hung, Picked};
 
 use crate::search::first_behind;
 use doc_copy::grafted;
@@ -17,30 +16,14 @@ const BOTH: usize = TREE_LIMIT + TREE_LIMIT;
 
 const WORDS: usize = 2 * BOTH;
 
-// Room for the words.
-fn no_words() -> [u16; WORDS]
-    ensures { Blank (2 * (tree_limit + tree_limit)) result }
-{
-    [0; WORDS]
-}
-
-// A byte for each node: 0.
-fn no_bytes() -> [u8; BOTH]
-    ensures { Blank (tree_limit + tree_limit) result }
-{
-    [0; BOTH]
-}
-
 // The words of t at the front of the rows.
 fn lay(t: &[u16], rows: &mut [u16])
     requires { length t.now ≤ length rows.old }
     ensures { rows.new ≡ tab (λ i. get_or t.now i 0) (length t.now) ++ drop (length t.now) rows.old }
 {
     let n = t.len();
-    let mut i = 0;
-    while i < n {
+    for i in 0..n {
         rows[i] = t[i];
-        i += 1;
     }
 }
 
@@ -49,12 +32,12 @@ fn copy_row(r: &[u16], x: &[u16], t: &[u16], q: usize) -> [u8; BOTH]
     requires { Hung r.now x.now t.now q }
     ensures { Picked r.now x.now t.now q result }
 {
-    let mut rows = no_words();
+    let mut rows = [0u16; WORDS];
     lay(t, &mut rows);
-    let mut marks = no_bytes();
+    let mut marks = [0u8; BOTH];
     let used = grafted(x, q, t.len() / 2, &mut rows, &mut marks);
-    let mut row = no_bytes();
-    reading(r, 1, &rows, &marks, used, &mut row);
+    let mut row = [0u8; BOTH];
+    let _ = reading(r, 1, &rows, &marks, used, &mut row);
     row
 }
 

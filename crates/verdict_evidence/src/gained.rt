@@ -1,7 +1,7 @@
 // An insert: the first new node that the read selects.
+ghost use Rattle.tables.specs.Checks.{Fine};
 ghost use Rattle.std.specs.Prelude.{◌≡◌};
 ghost use Rattle.tables.specs.Documents.{bare};
-ghost use Rattle.tables.specs.declared.refusal.Checked.TheVariants.{Fine};
 ghost use Rattle.doc_updates.specs.Asking.{Chosen};
 ghost use Rattle.check_evidence.specs.Order.{insert_evidence_check};
 ghost use Rattle.verdict_evidence.specs.Finding.{gained_node};

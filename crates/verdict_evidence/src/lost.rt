@@ -1,6 +1,6 @@
 // A delete: the first node that the read selects and the delete removes.
+ghost use Rattle.tables.specs.Checks.{Fine};
 ghost use Rattle.std.specs.Prelude.{◌≡◌};
-ghost use Rattle.tables.specs.declared.refusal.Checked.TheVariants.{Fine};
 ghost use Rattle.check_evidence.specs.Order.{delete_evidence_check};
 ghost use Rattle.verdict_evidence.specs.Finding.{within, lost_node};
 

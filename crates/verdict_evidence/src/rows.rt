@@ -3,30 +3,22 @@ ghost use Rattle.std.specs.Prelude.{◌<◌, ◌≡◌};
 ghost use Rattle.tables.specs.Limits.{step_limit, tree_limit};
 ghost use Rattle.tables.specs.Words.{steps};
 ghost use Rattle.tables.specs.Documents.{bare};
-ghost use Rattle.tables.specs.Checks.{pattern_check, tree_check};
-ghost use Rattle.tables.specs.declared.refusal.Checked.TheVariants.{Fine};
+ghost use Rattle.tables.specs.Checks.{pattern_check, tree_check, Fine};
 ghost use Rattle.doc_updates.specs.Asking.{Chosen};
-ghost use Rattle.verdict_evidence.specs.Rows.{Blank, Cut, Standing};
+ghost use Rattle.verdict_evidence.specs.Rows.{Cut, Standing};
 
 use doc_delete::deleting;
 use doc_read::read::{reading, reading_at};
 use tables::limits::TREE_LIMIT;
-
-// A byte for each node: 0.
-fn none() -> [u8; TREE_LIMIT]
-    ensures { Blank tree_limit result }
-{
-    [0; TREE_LIMIT]
-}
 
 // A row with 1 at the nodes that p selects; p is the pattern of that table.
 pub(crate) fn selected_row(p: &[u16], table: usize, t: &[u16]) -> [u8; TREE_LIMIT]
     requires { (pattern_check p.now step_limit table ≡ Fine) × (tree_check t.now tree_limit 5 ≡ Fine) }
     ensures { Chosen p.now (bare t.now) result }
 {
-    let marks = none();
-    let mut row = none();
-    reading(p, table, t, &marks, t.len() / 2, &mut row);
+    let marks = [0u8; TREE_LIMIT];
+    let mut row = [0u8; TREE_LIMIT];
+    let _ = reading(p, table, t, &marks, t.len() / 2, &mut row);
     row
 }
 
@@ -35,9 +27,9 @@ pub(crate) fn standing_row(r: &[u16], wanted: &[u8], t: &[u16]) -> [u8; TREE_LIM
     requires { (pattern_check r.now step_limit 1 ≡ Fine) × (tree_check t.now tree_limit 5 ≡ Fine) }
     ensures { Standing r.now wanted.now t.now result }
 {
-    let marks = none();
-    let mut row = none();
-    reading_at(r, 1, wanted, t, &marks, t.len() / 2, &mut row);
+    let marks = [0u8; TREE_LIMIT];
+    let mut row = [0u8; TREE_LIMIT];
+    let _ = reading_at(r, 1, wanted, t, &marks, t.len() / 2, &mut row);
     row
 }
 
@@ -46,7 +38,7 @@ pub(crate) fn removed_row(p: &[u16], t: &[u16]) -> [u8; TREE_LIMIT]
     requires { (pattern_check p.now step_limit 2 ≡ Fine) × (1 < steps p.now) × (tree_check t.now tree_limit 5 ≡ Fine) }
     ensures { Cut p.now t.now result }
 {
-    let mut marks = none();
-    deleting(p, t, &mut marks, t.len() / 2);
+    let mut marks = [0u8; TREE_LIMIT];
+    let _ = deleting(p, t, &mut marks, t.len() / 2);
     marks
 }

@@ -1,4 +1,6 @@
 -- From the checks that the code makes to what is met.
+use Rattle.std.specs.Prelude.{Err}
+use Rattle.tables.specs.Checks.{Checked, Fine}
 use Prim.Native.Nat.{ℕ, ◌<◌, ◌≤◌}
 use mathlib.Core.Path.{◌≡◌, refl}
 use mathlib.Core.Bool.{Bool, true, false, cond}
@@ -8,8 +10,6 @@ use lib.ListN.{length}
 use borrow.Author.Tests.{lt-ltb, le-ltb}
 use Rattle.tables.specs.Words.{steps}
 use Rattle.tables.specs.declared.refusal.Refusal.{Refusal}
-use Rattle.tables.specs.declared.refusal.Checked.{Checked}
-use Rattle.tables.specs.declared.refusal.Checked.TheVariants.{Fine, Refused}
 use Rattle.conflict.specs.Crossing.{chain}
 use Rattle.check_verdict.specs.Order.{needed}
 use Rattle.tables.proofs.Branches.{fine_on, fine_off}
@@ -38,6 +38,6 @@ module _ (r p : List ℕ) where
     unfolding met
     met-on {n} {before} {after} = fine_on (λ found. Met r p found before after n) e (cond inside way []) []
 
-    pub met_off : {why : Refusal} (out : List ℕ) → got ≡ Refused why → Met r p (met check inside way) out out 0
+    pub met_off : {why : Refusal} (out : List ℕ) → got ≡ Err why → Met r p (met check inside way) out out 0
     unfolding met
     met_off out told = fine_off (λ found. Met r p found out out 0) e (cond inside way []) [] told (met_none out)

@@ -1,10 +1,11 @@
 -- One cell after the other: which numbers are read, what is written, and what the row and the moves then hold.
-use Prim.Native.Nat.{ℕ, zero, suc, pred, ◌+◌, ◌^◌, ◌<◌, ◌≤◌}
+use Prim.Native.Nat.{ℕ, zero, suc, pred, ◌+◌, ◌-◌, ◌^◌, ◌<◌, ◌≤◌}
 use mathlib.Core.Path.{◌≡◌, refl, ◌∙◌}
 use mathlib.Core.Bool.{Bool, cond}
 use mathlib.Core.List.{List}
 use native.Mathlib.Decide.{dec_lt}
 use native.Mathlib.Nat.{le_refl}
+use native.Mathlib.Numerals.{sub-one}
 use native.Mathlib.Omega.{arith}
 use borrow.Author.Tests.{ne_eqb}
 use lib.ListN.{length, get_or, set, length-set}
@@ -65,8 +66,8 @@ module _ (r : List ℕ) (below : Bool) (p : List ℕ) (under : Bool) where
     read_number : {x : ℕ} → x ≡ get_or row j 0 → 0 < i → x ≡ fewest_of r below p under (pred i) j
     read_number e h = e ∙ next.held.earlier j (le_refl j) next.updates h
 
-    update_number : {x k : ℕ} → k ≡ pred j → x ≡ get_or row k 0 → 0 < j → x ≡ fewest_of r below p under i (pred j)
-    update_number {x} {k} d e h = e ∙ rw d (next.held.own (pred j) (omega arith))
+    update_number : {x k : ℕ} → k ≡ j - 1 → x ≡ get_or row k 0 → 0 < j → x ≡ fewest_of r below p under i (pred j)
+    update_number {x} {k} d e h = e ∙ rw (d, sub-one j) (next.held.own (pred j) (omega arith))
 
     pub both_word : 0 < i → 0 < j → corner < word_limit
     both_word h l = rw (next.held.in_hand h l) (number_word (pred i) (pred j) (omega (arith, row_inside)) (omega (arith, column_inside)))
@@ -74,13 +75,13 @@ module _ (r : List ℕ) (below : Bool) (p : List ℕ) (under : Bool) where
     pub read_word : {x : ℕ} → x ≡ get_or row j 0 → 0 < i → x < word_limit
     read_word e h = rw (read_number e h) (number_word (pred i) j (omega (arith, row_inside)) column_inside)
 
-    pub update_word : {x k : ℕ} → k ≡ pred j → x ≡ get_or row k 0 → 0 < j → x < word_limit
+    pub update_word : {x k : ℕ} → k ≡ j - 1 → x ≡ get_or row k 0 → 0 < j → x < word_limit
     update_word d e h = rw (update_number d e h) (number_word i (pred j) row_inside (omega (arith, column_inside)))
 
     -- the cell that is chosen from them
     module _ {both x read k y update : ℕ} (a : both ≡ together (agree (label r i) (label p j)) i j corner)
         (b : x ≡ get_or row j 0) (c : read ≡ alone (stays p under j) i x)
-        (d : k ≡ pred j) (e : y ≡ get_or row k 0) (f : update ≡ alone (stays r below i) j y) where
+        (d : k ≡ j - 1) (e : y ≡ get_or row k 0) (f : update ≡ alone (stays r below i) j y) where
       both_is : both ≡ both_land r below p under i j
       unfolding both_land
       both_is = a ∙ together-same (agree (label r i) (label p j)) i j next.held.in_hand

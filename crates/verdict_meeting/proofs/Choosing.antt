@@ -1,14 +1,16 @@
 -- The branches of the code that chooses and makes a move, held against those of the definitions.
-use Prim.Native.Nat.{ℕ, zero, suc, pred, ◌<◌}
+use Prim.Native.Nat.{ℕ, zero, suc, pred, ◌-◌, ◌<◌}
 use mathlib.Core.Path.{◌≡◌, refl, ◌∙◌}
 use mathlib.Core.Bool.{Bool, true, false, cond}
+use native.Mathlib.Numerals.{sub-one}
 use native.Mathlib.Omega.{arith}
 use lib.Dec.{eqb}
-use borrow.Author.Tests.{eq-eqb, ne_eqb}
+use mir.Val.{bool_byte}
+use borrow.Author.Tests.{ne_eqb}
 use Rattle.conflict.specs.Meeting.{agree, sooner, least, onward}
 use Rattle.verdict_landing.specs.Landing.{pick}
 use Rattle.verdict_meeting.specs.Cells.{together, alone, choose}
-use Rattle.verdict_meeting.specs.Tracing.{read_after, update_after}
+use Rattle.verdict_meeting.specs.Tracing.{update_after}
 
 together_inner : (may : Bool) (n i j : ℕ) → (i ≡ 0 → ⊥) → (j ≡ 0 → ⊥) → onward may n ≡ together may i j n
 unfolding together
@@ -16,22 +18,21 @@ together_inner may n zero j f g = absurd (f refl)
 together_inner may n (suc i) zero f g = absurd (g refl)
 together_inner may n (suc i) (suc j) f g = refl
 
+-- a bool as a number
+number_is : (t : Bool) → bool_byte t ≡ cond t 1 0
+number_is true = refl
+number_is false = refl
+
 -- both land, by whether their labels agree
 module _ (a b i j n : ℕ) {x y k : ℕ} {t : Bool} (d : x ≡ a) (e : y ≡ b) (h : t ≡ agree x y) where
-  pub together_first : i ≡ 0 → j ≡ 0 → k ≡ cond t 1 0 → k ≡ together (agree a b) i j n
+  pub together_first : i ≡ 0 → j ≡ 0 → k ≡ bool_byte t → k ≡ together (agree a b) i j n
   unfolding together
-  together_first f g c = rw (f, g, ← d, ← e, ← h) c
+  together_first f g c = rw (f, g, ← d, ← e, ← h) (c ∙ number_is t)
 
   pub together_later : (i ≡ 0 → ⊥) → (j ≡ 0 → ⊥) → k ≡ onward t n → k ≡ together (agree a b) i j n
   together_later f g c = rw (← d, ← e, ← h) (c ∙ together_inner t n i j f g)
 
 module _ (may : Bool) where
-  pub first_lands : may ≡ true → ◌≡◌ {A = ℕ} 1 (cond may 1 0)
-  first_lands h = rw h
-
-  pub first_fails : may ≡ false → ◌≡◌ {A = ℕ} 0 (cond may 1 0)
-  first_fails h = rw h
-
   pub together_update : (i j n : ℕ) → i ≡ 0 → (j ≡ 0 → ⊥) → 0 ≡ together may i j n
   unfolding together
   together_update zero zero n e f = absurd (f refl)
@@ -88,29 +89,17 @@ module _ (m n k : ℕ) {t : Bool} {d : ℕ} (e : d ≡ least n k) (h : t ≡ soo
     third_move w = rw (later_move, w)
 
 module _ (i m : ℕ) where
-  pub read_both : {k : ℕ} → m ≡ 0 → k ≡ pred i → k ≡ read_after i m
-  unfolding read_after pick
-  read_both z h = rw (eq-eqb m 0 z, h)
-
-  pub read_alone : {k : ℕ} → (m ≡ 0 → ⊥) → m ≡ 1 → k ≡ pred i → k ≡ read_after i m
-  unfolding read_after pick
-  read_alone n z h = rw (ne_eqb m 0 n, eq-eqb m 1 z, h)
-
-  pub read_stays : (m ≡ 0 → ⊥) → (m ≡ 1 → ⊥) → i ≡ read_after i m
-  unfolding read_after pick
-  read_stays n z = rw (ne_eqb m 0 n, ne_eqb m 1 z)
-
   pub update_stays : m ≡ 1 → i ≡ update_after i m
   unfolding update_after pick
   update_stays z = rw z
 
-  pub update_moves : {k : ℕ} → (m ≡ 1 → ⊥) → k ≡ pred i → k ≡ update_after i m
+  pub update_moves : {k : ℕ} → (m ≡ 1 → ⊥) → k ≡ i - 1 → k ≡ update_after i m
   unfolding update_after pick
   update_moves {k} n h = go (eqb m 0)
     where
       go : (t : Bool) → k ≡ cond t (pred i) (cond (eqb m 1) i (pred i))
-      go true = h
-      go false = rw (ne_eqb m 1 n) h
+      go true = h ∙ sub-one i
+      go false = rw (ne_eqb m 1 n) (h ∙ sub-one i)
 
 -- the best that is kept, or the new one
 module _ (m n a b : ℕ) {t : Bool} (h : t ≡ sooner m n) where

@@ -13,6 +13,7 @@ use Rattle.tables.specs.Words.{steps}
 use Rattle.conflict.specs.Meeting.{sooner, shorter, meeting_of, fewest_of}
 use Rattle.conflict.specs.Crossing.{chain}
 use Rattle.conflict.proofs.Shortest.{length-meeting_of, fewest_of_most}
+use Rattle.check_verdict.specs.Admitted.{Bounded}
 use Rattle.check_verdict.specs.Order.{needed}
 use Rattle.verdict_meeting.specs.Tracing.{left, Traceable}
 use Rattle.verdict_meeting.specs.Met.{marked_way, nearest, Met}
@@ -74,8 +75,8 @@ module _ (r : List ℕ) (below : Bool) (p : List ℕ) (under : Bool) (states : L
     near_long : length (left number (meeting_of r below p under state j)) ≡ number
     near_long = sym (ap length near.way) ∙ near.count
 
-    pub near_traced : (out : List ℕ) {before : List ℕ} → Asked r p j → MovesHeld r below p under (cell_at (steps p) (steps r) 0) moves
-        → Lent r p before out → length moves ≡ length before → needed r p ≤ length out → Traceable r below p under number state j moves out
+    pub near_traced : (out : List ℕ) {n : ℕ} → Asked r p j → MovesHeld r below p under (cell_at (steps p) (steps r) 0) moves
+        → Lent r p n out → length moves ≡ n → needed r p ≤ length out → Traceable r below p under number state j moves out
     near_traced out asked held lent same room =
         record {
           moved = record { bounded = asked.bounded; all = rw same (lent.all room); held = held };
@@ -96,10 +97,13 @@ module _ (r : List ℕ) (below : Bool) (p : List ℕ) (under : Bool) (states : L
     near_counted out short = record { count = sym near.count; words = rw (lt-leb (needed r p) (length out) short) }
 
 -- the moves that are lent are enough
-module _ (r p out moves : List ℕ) where
-  pub lent_some : {n : ℕ} → length moves ≡ n → steps p * steps r ≤ n → Lent r p moves out
-  unfolding cell_at
-  lent_some e h = record { all = λ room. omega (arith, h, e) }
+module _ (r p out : List ℕ) where
+  pub lent_none : length out < needed r p → Lent r p 0 out
+  lent_none short = record { all = λ room. absurd (omega arith) }
 
-  pub lent_all : {j : ℕ} → length moves ≡ step_limit * step_limit → Asked r p j → Lent r p moves out
-  lent_all e asked = lent_some e (product_most (steps p) (steps r) asked.bounded.updates asked.bounded.reads)
+  pub lent_some : {n : ℕ} → steps p * steps r ≤ n → Lent r p n out
+  unfolding cell_at
+  lent_some h = record { all = λ room. omega (arith, h) }
+
+  pub lent_all : Bounded r p → Lent r p (step_limit * step_limit) out
+  lent_all b = lent_some (product_most (steps p) (steps r) b.updates b.reads)

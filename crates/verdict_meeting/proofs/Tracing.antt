@@ -3,7 +3,7 @@ use Prim.Native.Nat.{ℕ, zero, suc, pred, ◌+◌, ◌*◌, ◌-◌, ◌<◌, �
 use mathlib.Core.Path.{◌≡◌, refl, sym, ◌∙◌, ap, ap₂}
 use mathlib.Core.Bool.{Bool, true, false, cond}
 use mathlib.Core.List.{List, [], ◌∷◌, ◌++◌, append_assoc}
-use native.Mathlib.Numerals.{add-one}
+use native.Mathlib.Numerals.{add-one, sub-one}
 use native.Mathlib.Nat.{le_refl}
 use native.Mathlib.Omega.{arith}
 use lib.Dec.{eqb}
@@ -165,7 +165,7 @@ module _ (out : List ℕ) (k : ℕ) (room : 2 * k + 2 ≤ length out) where
   pub put_inside : (x : ℕ) → 2 * k + 1 < length (set out (2 * k) x)
   put_inside x = simp length-set (omega arith)
 
-  pub put_node : {x : ℕ} (l : ℕ) → x ≡ pred k → drop (2 * k) (set (set out (2 * k) x) (2 * k + 1) l) ≡ pred k ∷ l ∷ drop (2 * (k + 1)) out
+  pub put_node : {x : ℕ} (l : ℕ) → x ≡ k - 1 → drop (2 * k) (set (set out (2 * k) x) (2 * k + 1) l) ≡ pred k ∷ l ∷ drop (2 * (k + 1)) out
   put_node {x} l e =
       let big = set (set out (2 * k) x) (2 * k + 1) l in
       let long : length big ≡ length out = length-set (set out (2 * k) x) (2 * k + 1) l ∙ length-set out (2 * k) x in
@@ -175,7 +175,7 @@ module _ (out : List ℕ) (k : ℕ) (room : 2 * k + 2 ≤ length out) where
       let next : 2 * (k + 1) ≡ suc (suc (2 * k)) = omega arith in
       let rest : drop (suc (suc (2 * k))) big ≡ drop (suc (suc (2 * k))) out =
       drop-set-lt (suc (suc (2 * k))) (set out (2 * k) x) (2 * k + 1) l (omega arith) ∙ drop-set-lt (suc (suc (2 * k))) out (2 * k) x (omega arith) in
-      rw (next, ← e)
+      rw (next, ← (e ∙ sub-one k))
       (drop-cons big (2 * k) 0 (omega arith)
       ∙ ap₂ (λ (a : ℕ) (w : List ℕ). a ∷ w) parent (drop-cons big (suc (2 * k)) 0 (omega arith) ∙ ap₂ (λ (a : ℕ) (w : List ℕ). a ∷ w) own rest))
 

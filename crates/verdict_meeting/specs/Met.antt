@@ -1,7 +1,6 @@
 -- Inside: the shortest way on which a read in one of several states and an update in one state both run: what counting and writing it answers.
 use Rattle.std.specs.Prelude.{ℕ, zero, suc, ◌*◌, ◌≡◌, Bool, cond, List, [], ◌++◌, eqb, leb, length, drop, get_or}
-use Rattle.tables.specs.declared.refusal.Checked.{Checked}
-use Rattle.tables.specs.Checks.{where_fine}
+use Rattle.tables.specs.Checks.{where_fine, Checked}
 use Rattle.conflict.specs.Meeting.{shorter, meeting_of}
 use Rattle.conflict.specs.Crossing.{chain}
 use Rattle.check_verdict.specs.Order.{needed}

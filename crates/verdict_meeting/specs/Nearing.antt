@@ -8,10 +8,6 @@ use Rattle.verdict_meeting.specs.Cells.{cell_at}
 use Rattle.verdict_meeting.specs.Met.{nearest}
 use Rattle.verdict_meeting.specs.Tracing.{left}
 
--- cells of a small table of moves
-abbrev pub small_cells : ℕ
-small_cells = 4096
-
 -- the best of the marked states below i, and how many labels its way has, if there is one
 pub record Near (r : List ℕ) (below : Bool) (p : List ℕ) (under : Bool) (states : List ℕ) (j i state number : ℕ) : Type 0 where
   pub way : nearest r below p under states j i ≡ left number (meeting_of r below p under state j)
@@ -23,6 +19,6 @@ pub record Asked (r p : List ℕ) (j : ℕ) : Type 0 where
   pub bounded : Bounded r p
   pub column : j < steps p
 
--- where the way is to be written, there is room for the move of every cell
-pub record Lent (r p moves out : List ℕ) : Type 0 where
-  pub all : needed r p ≤ length out → cell_at (steps p) (steps r) 0 ≤ length moves
+-- where the way is to be written, n moves are enough for every cell
+pub record Lent (r p : List ℕ) (n : ℕ) (out : List ℕ) : Type 0 where
+  pub all : needed r p ≤ length out → cell_at (steps p) (steps r) 0 ≤ n

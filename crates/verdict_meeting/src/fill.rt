@@ -77,9 +77,7 @@ pub(crate) fn fill_row(
     let n = p.len() / 2;
     let start = cell_at(n, i, 0);
     let mut corner = 0;
-    let mut j = 0;
-    while j < n {
+    for j in 0..n {
         corner = fill_cell(r, below, p, under, i, j, start, corner, row, moves);
-        j += 1;
     }
 }

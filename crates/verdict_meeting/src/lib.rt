@@ -13,38 +13,17 @@ ghost use Rattle.tables.specs.Words.{steps};
 ghost use Rattle.check_verdict.specs.Admitted.{Bounded};
 ghost use Rattle.check_verdict.specs.Order.{patterns_check, needed};
 ghost use Rattle.verdict_meeting.specs.Met.{nearest, met, Met};
-ghost use Rattle.verdict_meeting.specs.Nearing.{Asked, Lent, small_cells};
+ghost use Rattle.verdict_meeting.specs.Nearing.{Asked, Lent};
 
 use crate::rows::nearest_state;
 use crate::witness::trace;
 use check_verdict::patterns_check;
 use tables::limits::STEP_LIMIT;
-use tables::refusal::Checked;
 
 // Pairs of states: few enough for a small table of moves, and at most.
 const SMALL_CELLS: usize = 4096;
 
 const CELLS: usize = STEP_LIMIT * STEP_LIMIT;
-
-// A number for every state of the update.
-fn blank_row() -> [u16; STEP_LIMIT]
-    ensures { length result ≡ step_limit }
-{
-    [0; STEP_LIMIT]
-}
-
-// A move for each of few pairs of states, and for every pair.
-fn few_moves() -> [u8; SMALL_CELLS]
-    ensures { length result ≡ small_cells }
-{
-    [0; SMALL_CELLS]
-}
-
-fn all_moves() -> [u8; CELLS]
-    ensures { length result ≡ step_limit * step_limit }
-{
-    [0; CELLS]
-}
 
 // The shortest way over the marked states to state j of the update, by a row of its own and moves that are lent; written where there is
 // room for the longest.
@@ -59,10 +38,10 @@ fn write_nearest(
     out: &mut [u16],
 ) -> usize
     requires asked { Asked r.now p.now j }
-    requires lent { Lent r.now p.now moves.old out.old }
+    requires lent { Lent r.now p.now (length moves.old) out.old }
     ensures { Met r.now p.now (nearest r.now below p.now under states.now j (steps r.now)) out.old out.new result }
 {
-    let mut row = blank_row();
+    let mut row = [0u16; STEP_LIMIT];
     let best = nearest_state(r, below, p, under, states, j, &mut row, moves);
     let number = best.number;
     if out.len() < 2 * (r.len() / 2 + p.len() / 2 - 1) {
@@ -72,8 +51,8 @@ fn write_nearest(
     number
 }
 
-// It is counted only: no move is stored.
-fn count_only(
+// By a table of N moves: enough where the way is written; where it is counted only, N may be 0.
+fn write_with<const N: usize>(
     r: &[u16],
     below: bool,
     p: &[u16],
@@ -83,45 +62,11 @@ fn count_only(
     out: &mut [u16],
 ) -> usize
     requires asked { Asked r.now p.now j }
-    requires out_len_bound { length out.old < needed r.now p.now }
+    requires lent { Lent r.now p.now N out.old }
+    requires most { N ≤ step_limit * step_limit }
     ensures { Met r.now p.now (nearest r.now below p.now under states.now j (steps r.now)) out.old out.new result }
 {
-    let mut moves = [0u8; 0];
-    write_nearest(r, below, p, under, states, j, &mut moves, out)
-}
-
-// By a small table of moves.
-fn write_few(
-    r: &[u16],
-    below: bool,
-    p: &[u16],
-    under: bool,
-    states: &[u8],
-    j: usize,
-    out: &mut [u16],
-) -> usize
-    requires asked { Asked r.now p.now j }
-    requires r_bound { steps p.now * steps r.now ≤ small_cells }
-    ensures { Met r.now p.now (nearest r.now below p.now under states.now j (steps r.now)) out.old out.new result }
-{
-    let mut moves = few_moves();
-    write_nearest(r, below, p, under, states, j, &mut moves, out)
-}
-
-// By one with room for every pair of states.
-fn write_all(
-    r: &[u16],
-    below: bool,
-    p: &[u16],
-    under: bool,
-    states: &[u8],
-    j: usize,
-    out: &mut [u16],
-) -> usize
-    requires { Asked r.now p.now j }
-    ensures { Met r.now p.now (nearest r.now below p.now under states.now j (steps r.now)) out.old out.new result }
-{
-    let mut moves = all_moves();
+    let mut moves = [0u8; N];
     write_nearest(r, below, p, under, states, j, &mut moves, out)
 }
 
@@ -144,12 +89,12 @@ fn shortest(
         return 0;
     }
     if out.len() < 2 * (m + n - 1) {
-        return count_only(r, below, p, under, states, j, out);
+        return write_with::<0>(r, below, p, under, states, j, out);
     }
     if n * m <= SMALL_CELLS {
-        return write_few(r, below, p, under, states, j, out);
+        return write_with::<SMALL_CELLS>(r, below, p, under, states, j, out);
     }
-    write_all(r, below, p, under, states, j, out)
+    write_with::<CELLS>(r, below, p, under, states, j, out)
 }
 
 // The shortest way on which both run, the read in a state that is marked by a 1 and the update in state j; each flag says whether anything
@@ -167,7 +112,7 @@ pub fn meet(
     ensures { Met r.now p.now (met (patterns_check r.now p.now) (ltb j (steps p.now)) (nearest r.now below p.now under states.now j (steps r.now))) out.old out.new result }
 {
     match patterns_check(r, p) {
-        Checked::Fine => shortest(r, below, p, under, states, j, out),
-        Checked::Refused(_) => 0,
+        Ok(()) => shortest(r, below, p, under, states, j, out),
+        Err(_) => 0,
     }
 }

@@ -6,7 +6,7 @@ ghost use Rattle.selection.specs.Ways.{stays};
 ghost use Rattle.conflict.specs.Meeting.{agree, least, fewest_of};
 ghost use Rattle.verdict_meeting.specs.Cells.{together, alone, choose, move_of, Next};
 
-use crate::moves::{agreeing, earlier, is_sooner, least_of, one_more};
+use crate::moves::{agreeing, is_sooner, least_of, one_more};
 use pattern_step::stays;
 use tables::words::{second_word, word};
 
@@ -18,16 +18,6 @@ pub(crate) struct Cell {
     pub(crate) step: u8,
 }
 
-// Whether the first steps land together, at the root: 1 label or none.
-fn first_landing(may: bool) -> usize
-    ensures { result ≡ cond may 1 0 }
-{
-    if may {
-        return 1;
-    }
-    0
-}
-
 // How many labels where both land at the nearest: one more than the n of the states before.
 fn both_land(r: &[u16], p: &[u16], i: usize, j: usize, n: usize) -> usize
     requires { 0 < i → 0 < j → n < word_limit }
@@ -36,7 +26,7 @@ fn both_land(r: &[u16], p: &[u16], i: usize, j: usize, n: usize) -> usize
     let may = agreeing(second_word(r, i), second_word(p, j));
     if i == 0 {
         if j == 0 {
-            return first_landing(may);
+            return usize::from(may);
         }
         return 0;
     }
@@ -96,6 +86,6 @@ pub(crate) fn cell_of(
     let low = word(row, j);
     let both = both_land(r, p, i, j, corner);
     let read = lands_alone(p, under, j, i, low);
-    let update = lands_alone(r, below, i, j, word(row, earlier(j)));
+    let update = lands_alone(r, below, i, j, word(row, j.saturating_sub(1)));
     chosen(both, read, update)
 }

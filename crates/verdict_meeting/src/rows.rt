@@ -71,12 +71,10 @@ pub(crate) fn nearest_state(
         number: 0,
         state: 0,
     };
-    let mut i = 0;
-    while i < m {
+    for i in 0..m {
         fill_row(r, below, p, under, i, row, moves);
         let own = candidate(r, below, p, under, states, j, i, row);
         best = nearer(best, own, i);
-        i += 1;
     }
     best
 }

@@ -8,7 +8,6 @@ ghost use Rattle.verdict_meeting.specs.Cells.{cell_at};
 ghost use Rattle.verdict_meeting.specs.Tracing.{read_after, update_after, left, Traceable};
 
 use crate::fill::cell_at;
-use crate::moves::earlier;
 use tables::words::byte;
 use verdict_landing::landing_at;
 
@@ -22,14 +21,12 @@ fn move_at(p: &[u16], i: usize, j: usize, moves: &[u8]) -> usize
 }
 
 // The read's state above a move.
+#[tactic(auto, unfolding(crate::specs::Tracing::read_after, verdict_landing::specs::Landing::pick))]
 fn read_after(i: usize, m: usize) -> usize
     ensures { result ≡ read_after i m }
 {
-    if m == 0 {
-        return earlier(i);
-    }
-    if m == 1 {
-        return earlier(i);
+    if m == 0 || m == 1 {
+        return i.saturating_sub(1);
     }
     i
 }
@@ -41,7 +38,7 @@ fn update_after(j: usize, m: usize) -> usize
     if m == 1 {
         return j;
     }
-    earlier(j)
+    j.saturating_sub(1)
 }
 
 // Writes node k of a chain: its parent is the node before it.
@@ -49,8 +46,7 @@ fn put(out: &mut [u16], k: usize, l: u16)
     requires { (2 * k + 2 ≤ length out.old) × (k < word_limit) }
     ensures { drop (2 * k) out.new ≡ pred k ∷ l ∷ drop (2 * (k + 1)) out.old }
 {
-    let before = earlier(k) as u16;
-    out[2 * k] = before;
+    out[2 * k] = k.saturating_sub(1) as u16;
     out[2 * k + 1] = l;
 }
 
@@ -69,12 +65,10 @@ pub(crate) fn trace(
     requires { Traceable r.now below p.now under n i j moves.now out.old }
     ensures { out.new ≡ chain (left n (meeting_of r.now below p.now under i j)) ++ drop (2 * n) out.old }
 {
-    let mut rest = n;
     let mut a = i;
     let mut b = j;
-    while 0 < rest {
+    for rest in (0..n).rev() {
         let m = move_at(p, a, b, moves);
-        rest -= 1;
         put(out, rest, landing_at(r, p, a, b, m));
         a = read_after(a, m);
         b = update_after(b, m);

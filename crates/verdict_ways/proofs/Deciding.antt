@@ -1,4 +1,5 @@
 -- The ways of accepted words decide whether there is a conflict, within the bound.
+use Rattle.tables.specs.Checks.{Fine}
 use Prim.Native.Nat.{ℕ, ◌+◌, ◌*◌, ◌-◌, ◌≤◌}
 use native.Mathlib.Omega.{arith}
 use mathlib.Core.Path.{◌≡◌}
@@ -6,7 +7,6 @@ use mathlib.Core.List.{List}
 use lib.ListN.{length}
 use Rattle.tables.specs.Words.{steps, Bits16}
 use Rattle.tables.specs.Limits.{tree_limit}
-use Rattle.tables.specs.declared.refusal.Checked.TheVariants.{Fine}
 use Rattle.tables.proofs.Soundness.{accepted_tree}
 use Rattle.conflict.specs.Conflict.{Update, delete, insert, pattern}
 use Rattle.conflict.specs.Crossing.{delete_way, insert_way}

@@ -11,8 +11,7 @@ use lib.Seq.{get_or-set_same, get_or-set_other}
 use borrow.Author.Tests.{ne_eqb, lt-ltb, le-ltb, le-leb}
 use Rattle.tables.specs.Limits.{step_limit, tree_limit}
 use Rattle.tables.specs.Words.{steps}
-use Rattle.tables.specs.declared.refusal.Checked.TheVariants.{Fine}
-use Rattle.tables.specs.Checks.{where_fine, pattern_check, tree_check}
+use Rattle.tables.specs.Checks.{where_fine, pattern_check, tree_check, Fine}
 use Rattle.tables.proofs.Accepted.{then_both}
 use Rattle.selection.specs.Ways.{last}
 use Rattle.selection.specs.Lists.{tab}

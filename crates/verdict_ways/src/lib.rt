@@ -1,10 +1,9 @@
 // The shortest way on which a read and an update show a conflict, counted and written; and the tests of the deep verdict, by one way each.
 #![tactic(auto)]
 
-ghost use Rattle.std.specs.Prelude.{◌<◌, ◌≡◌, false, [], length};
+ghost use Rattle.std.specs.Prelude.{◌<◌, ◌≡◌, false, [], length, true};
 ghost use Rattle.tables.specs.Limits.{step_limit};
-ghost use Rattle.tables.specs.Checks.{where_fine};
-ghost use Rattle.tables.specs.declared.refusal.Checked.TheVariants.{Fine};
+ghost use Rattle.tables.specs.Checks.{where_fine, Fine};
 ghost use Rattle.conflict.specs.Crossing.{delete_way, insert_way, delete_deep, insert_deep};
 ghost use Rattle.check_verdict.specs.Order.{deep_delete_check, deep_insert_check, delete_verdict_check, insert_verdict_check};
 ghost use Rattle.verdict_ways.specs.Marked.{Only};
@@ -12,7 +11,6 @@ ghost use Rattle.verdict_ways.specs.Ways.{WayWritten};
 
 use check_verdict::{deep_delete_check, deep_insert_check, delete_check, insert_check};
 use tables::limits::STEP_LIMIT;
-use tables::refusal::Checked;
 use verdict_entering::entering_states;
 use verdict_meeting::meet;
 
@@ -78,8 +76,8 @@ pub fn delete_way(r: &[u16], p: &[u16], out: &mut [u16]) -> usize
     ensures { WayWritten (where_fine (delete_verdict_check r.now p.now (length out.old)) (delete_way r.now p.now) []) out.old out.new result }
 {
     match delete_check(r, p, out.len()) {
-        Checked::Fine => shortest_delete(r, p, out),
-        Checked::Refused(_) => 0,
+        Ok(()) => shortest_delete(r, p, out),
+        Err(_) => 0,
     }
 }
 
@@ -88,8 +86,8 @@ pub fn insert_way(r: &[u16], p: &[u16], x: &[u16], out: &mut [u16]) -> usize
     ensures { WayWritten (where_fine (insert_verdict_check r.now p.now x.now (length out.old)) (insert_way r.now p.now x.now) []) out.old out.new result }
 {
     match insert_check(r, p, x, out.len()) {
-        Checked::Fine => shortest_insert(r, p, x, out),
-        Checked::Refused(_) => 0,
+        Ok(()) => shortest_insert(r, p, x, out),
+        Err(_) => 0,
     }
 }
 
@@ -98,8 +96,8 @@ pub fn delete_deep(r: &[u16], p: &[u16]) -> bool
     ensures { result ≡ where_fine (deep_delete_check r.now p.now) (delete_deep r.now p.now) false }
 {
     match deep_delete_check(r, p) {
-        Checked::Fine => both_hit(r, p),
-        Checked::Refused(_) => false,
+        Ok(()) => both_hit(r, p),
+        Err(_) => false,
     }
 }
 
@@ -108,7 +106,7 @@ pub fn insert_deep(r: &[u16], p: &[u16], x: &[u16]) -> bool
     ensures { result ≡ where_fine (deep_insert_check r.now p.now x.now) (insert_deep r.now p.now x.now) false }
 {
     match deep_insert_check(r, p, x) {
-        Checked::Fine => entered_or_hit(r, p, x),
-        Checked::Refused(_) => false,
+        Ok(()) => entered_or_hit(r, p, x),
+        Err(_) => false,
     }
 }

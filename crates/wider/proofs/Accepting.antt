@@ -9,8 +9,7 @@ use borrow.Author.Tests.{lt-ltb, le-leb}
 use lib.ListN.{length, get_or}
 use Rattle.tables.specs.Limits.{word_limit, step_limit, tree_limit}
 use Rattle.tables.specs.Words.{steps, axis, Bits16}
-use Rattle.tables.specs.Checks.{pattern_check, tree_check}
-use Rattle.tables.specs.declared.refusal.Checked.TheVariants.{Fine}
+use Rattle.tables.specs.Checks.{pattern_check, tree_check, Fine}
 use Rattle.tables.proofs.Outside.{outside}
 use Rattle.tables.proofs.Soundness.{accepted_pattern, accepted_steps, accepted_pairs, pattern_fine, accepted_tree}
 use Rattle.conflict.specs.Conflict.{Update, delete, insert}

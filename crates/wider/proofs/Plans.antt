@@ -1,4 +1,5 @@
 -- In a plan a read's slot never moves towards 0 where frames are made wider; where one read is, all other words stay.
+use Rattle.std.specs.Prelude.{Ok}
 use Prim.Native.Nat.{ℕ, zero, suc, ◌<◌, ◌≤◌}
 use mathlib.Core.Path.{◌≡◌, refl, sym, ◌∙◌, subst}
 use mathlib.Core.List.{List, [], ◌∷◌}
@@ -23,7 +24,6 @@ use Rattle.batch_check.proofs.Frames.{accepted_fits}
 use Rattle.batch_plan.specs.Batch.{SlotIs, PlanOf}
 use Rattle.batch_plan.proofs.Numbers.{earlier-next}
 use Rattle.batch_plan.proofs.Slots.{slot_no_less}
-use Rattle.outcomes.specs.declared.plans.Planned.TheVariants.{Frames}
 use Rattle.wider.specs.Wider.{WiderPattern, WiderUpdate, Wider}
 use Rattle.wider.specs.Batches.{WiderFrame, reads, updates, WiderFrames, WidenedRead}
 use Rattle.wider.proofs.Relation.{pattern_itself, update_itself}
@@ -163,7 +163,7 @@ module _ {b c : List (Frame (List ℕ) Update)} {k : ℕ} {r s : List ℕ} (wide
 
 -- two plans in one mode
 module _ (m : Mode) (b c before plan before' plan' : List ℕ) {n n' : ℕ} (words : Bits16 b) (words' : Bits16 c)
-    (narrow : PlanOf (relation_of m) b before plan (Frames n)) (wide : PlanOf (relation_of m) c before' plan' (Frames n')) where
+    (narrow : PlanOf (relation_of m) b before plan (Ok n)) (wide : PlanOf (relation_of m) c before' plan' (Ok n')) where
   fits : Fits FitFrame (batch_of b)
   unfolding plan_check
   fits = accepted_fits b words (then_first (batch_check b) (output_check (length (batch_of b)) (length before)) narrow.0)

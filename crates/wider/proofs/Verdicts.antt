@@ -1,4 +1,6 @@
 -- What was shown of an accepted pair holds of an accepted wider one; so a verdict that said conflict says conflict, and a deep one that said yes says yes.
+use Rattle.std.specs.Prelude.{Bool, true, false, Option, Some, None, Result, Ok, Err}
+use Rattle.tables.specs.declared.refusal.Refusal.{Refusal}
 use Prim.Native.Nat.{ℕ, ◌*◌, ◌<◌, ◌≤◌}
 use mathlib.Core.Path.{◌≡◌, refl}
 use mathlib.Core.List.{List}
@@ -8,10 +10,6 @@ use Rattle.tables.specs.Documents.{Doc, Sound}
 use Rattle.tables.proofs.Accepted.{never}
 use Rattle.conflict.specs.Conflict.{Update, Differs, Witness, Conflict, Smallest, Deep}
 use Rattle.order.specs.Fitting.{Fit, FitUpdate}
-use Rattle.outcomes.specs.declared.verdicts.Verdict.{Verdict}
-use Rattle.outcomes.specs.declared.verdicts.Verdict.TheVariants as verdict
-use Rattle.outcomes.specs.declared.verdicts.Deeply.{Deeply}
-use Rattle.outcomes.specs.declared.verdicts.Deeply.TheVariants as deep
 use Rattle.verdict.specs.Promise.{NodeVerdict}
 use Rattle.verdict_deep.specs.Promise.{DeepVerdict}
 use Rattle.wider.specs.Wider.{Widened}
@@ -45,17 +43,17 @@ module _ {r s : List ℕ} {u v : Update} (w : Widened r u s v) where
   accepted_smallest = smallest_wider reads update wider_update w.wider
 
   -- by a verdict into an output that is no shorter: its witness has no more nodes
-  pub verdict_wider : (before after before' after' : List ℕ) (n : ℕ) (answer : Verdict) → NodeVerdict r u before after (verdict.Conflict n) →
-      NodeVerdict s v before' after' answer → length before ≤ length before' → (m : ℕ) × (answer ≡ verdict.Conflict m) × (m ≤ n)
-  verdict_wider before after before' after' n (verdict.Refused why) found h long =
+  pub verdict_wider : (before after before' after' : List ℕ) (n : ℕ) (answer : Result (Option ℕ) Refusal) → NodeVerdict r u before after (Ok (Some n)) →
+      NodeVerdict s v before' after' answer → length before ≤ length before' → (m : ℕ) × (answer ≡ Ok (Some m)) × (m ≤ n)
+  verdict_wider before after before' after' n (Err why) found h long =
       never h.given (room_wider w.wider w.wide (length before) (length before') found.fine long)
-  verdict_wider before after before' after' n verdict.Clear found h long =
+  verdict_wider before after before' after' n (Ok None) found h long =
       absurd (h.none (record { tree = take (2 * n) after; shows = accepted_witness found.witness }))
-  verdict_wider before after before' after' n (verdict.Conflict m) found h long =
+  verdict_wider before after before' after' n (Ok (Some m)) found h long =
       (m, refl, omega (arith, h.fewest (take (2 * n) after) (accepted_witness found.witness), found.count))
 
   -- by a deep verdict
-  pub deeply_wider : (answer : Deeply) → DeepVerdict r u deep.Yes → DeepVerdict s v answer → answer ≡ deep.Yes
-  deeply_wider (deep.Refused why) found h = never h w.wide.fine
-  deeply_wider deep.No found h = absurd (h.none (accepted_deep found.some))
-  deeply_wider deep.Yes found h = refl
+  pub deeply_wider : (answer : Result Bool Refusal) → DeepVerdict r u (Ok true) → DeepVerdict s v answer → answer ≡ Ok true
+  deeply_wider (Err why) found h = never h w.wide.fine
+  deeply_wider (Ok false) found h = absurd (h.none (accepted_deep found.some))
+  deeply_wider (Ok true) found h = refl

@@ -1,7 +1,7 @@
 -- Wider patterns, inserted trees and updates, as document 02 has them in W-212: any number of changes at once, or none.
+use Rattle.tables.specs.Checks.{Fine}
 use Rattle.std.specs.Prelude.{ℕ, suc, ◌<◌, ◌≡◌, List, ◌++◌, ◌⊎◌, length}
 use Rattle.tables.specs.Words.{steps, axis, label, Bits16}
-use Rattle.tables.specs.declared.refusal.Checked.TheVariants.{Fine}
 use Rattle.conflict.specs.Conflict.{Update, delete, insert, UpdateBits}
 use Rattle.check_verdict.specs.Order.{deep_check}
 

@@ -2,21 +2,22 @@
 use Prim.Native.Nat.{◌+◌, ◌*◌, ◌≤◌}
 use lib.ListN.{length}
 use native.Mathlib.Omega.{arith}
+use Rattle.tables.specs.Refusals.{number}
 use Rattle.batch_parts.proofs.Branches.{named_most, nodes-on, nodes_off}
 use Rattle.batch_parts.proofs.Places.{node_offset}
 use Rattle.batch_parts.proofs.nodes_part.Goals as goal
 
 pub overflow_mul-r : goal.overflow_mul-r
-overflow_mul-r c = let within : c.args.from + 2 * c.in-Refused.r.place ≤ length c.args.b.now = node_offset _ _ _ _ _ c.requires.0 c.requires.1 c.in-Refused.is c.tree.ensures in omega (arith, within)
+overflow_mul-r c = let within : c.args.from + 2 * c.in-Err.r.place ≤ length c.args.b.now = node_offset _ _ _ _ _ c.requires.0 c.requires.1 c.in-Err.is c.tree.ensures in omega (arith, within)
 
 pub overflow_add-from : goal.overflow_add-from
-overflow_add-from c = let within : c.args.from + 2 * c.in-Refused.r.place ≤ length c.args.b.now = node_offset _ _ _ _ _ c.requires.0 c.requires.1 c.in-Refused.is c.tree.ensures in omega (arith, within)
+overflow_add-from c = let within : c.args.from + 2 * c.in-Err.r.place ≤ length c.args.b.now = node_offset _ _ _ _ _ c.requires.0 c.requires.1 c.in-Err.is c.tree.ensures in omega (arith, within)
 
-pub overflow_add-from-in-Refused : goal.overflow_add-from-in-Refused
-overflow_add-from-in-Refused c = let within : c.args.from + 2 * c.in-Refused.r.place ≤ length c.args.b.now = node_offset _ _ _ _ _ c.requires.0 c.requires.1 c.in-Refused.is c.tree.ensures in omega (arith, within, named_most c.in-Refused.r.number c.word_named-word.ensures)
+pub overflow_add-from-in-Err : goal.overflow_add-from-in-Err
+overflow_add-from-in-Err c = let within : c.args.from + 2 * c.in-Err.r.place ≤ length c.args.b.now = node_offset _ _ _ _ _ c.requires.0 c.requires.1 c.in-Err.is c.tree.ensures in omega (arith, within, named_most (number c.in-Err.r.reason) c.word_named-word.ensures)
 
-pub returns-in-Fine : goal.returns-in-Fine
-returns-in-Fine c = nodes-on _ c.tree.ensures c.in-Fine.is
+pub returns-in-Ok : goal.returns-in-Ok
+returns-in-Ok c = nodes-on _ c.tree.ensures c.in-Ok.is
 
-pub returns-in-Refused : goal.returns-in-Refused
-returns-in-Refused c = nodes_off _ c.tree.ensures c.in-Refused.is c.word_named-word.ensures c.refused.ensures
+pub returns-in-Err : goal.returns-in-Err
+returns-in-Err c = nodes_off _ c.tree.ensures c.in-Err.is c.word_named-word.ensures c.refused.ensures

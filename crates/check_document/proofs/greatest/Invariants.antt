@@ -6,6 +6,3 @@ use Rattle.check_document.proofs.greatest.Given as goal
 
 abbrev pub invariant-loop-v : goal.invariant-loop-v
 invariant-loop-v l = ZeroWhere l.most (MarkNone l.m) l.v × (l.v ≤ l.used)
-
-abbrev pub decreases-loop-v : goal.decreases-loop-v
-decreases-loop-v l = l.used - l.v

@@ -10,7 +10,7 @@ use Rattle.check_document.proofs.shape.Goals as goal
 
 pub returns-then-not-used_right : goal.returns-then-not-used_right
 unfolding shape_check used_check
-returns-then-not-used_right c = c.refused.ensures ∙ sym (first_failed _ c.used_right.ensures _ _ _ (ap not c.if-not-used_right.true))
+returns-then-not-used_right c = c.refused.ensures ∙ sym (first_failed _ c.used_right.ensures _ (ap not c.if-not-used_right.true))
 
 pub used_nodes-requires : goal.used_nodes-requires
 used_nodes-requires c = omega (arith, used_held _ _ _ c.used_right.ensures (ap not c.if-not-used_right.false))

@@ -6,6 +6,3 @@ use Rattle.check_document.proofs.wrong_marks.Given as goal
 
 abbrev pub invariant-loop-node : goal.invariant-loop-node
 invariant-loop-node l = ZeroWhere l.count (MarkFine l.t l.m) l.node × (0 < l.node) × (l.node ≤ l.used) × (l.count ≤ 2 * l.node)
-
-abbrev pub decreases-loop-node : goal.decreases-loop-node
-decreases-loop-node l = l.used - l.node

@@ -5,6 +5,3 @@ use Rattle.check_document.proofs.wrongs.Given as goal
 
 abbrev pub invariant-loop-v : goal.invariant-loop-v
 invariant-loop-v l = ZeroWhere l.count (NodeFine l.t) l.v × (0 < l.v) × (l.v ≤ l.used) × (l.count ≤ 2 * l.v)
-
-abbrev pub decreases-loop-v : goal.decreases-loop-v
-decreases-loop-v l = l.used - l.v

@@ -1,25 +1,12 @@
 -- The patterns first, then the trees.
-use Rattle.tables.proofs.Branches.{then_on, then_off}
+use Rattle.tables.proofs.Branches.{handed, then_on, then_off}
 use Rattle.check_evidence.specs.Order.{insert_evidence_check}
-use borrow.Author.Rules.{rules}
 use Rattle.check_evidence.proofs.insert_evidence_check.Goals as goal
 
-pub patterns_check-requires : goal.patterns_check-requires
-patterns_check-requires c = search rules
-
-pub enum_told-1 : goal.enum_told-1
-enum_told-1 c = search rules
-
-pub trees-requires : goal.trees-requires
-trees-requires c = search rules
-
-pub enum_known-why : goal.enum_known-why
-enum_known-why c = search rules
-
-pub returns-in-Fine : goal.returns-in-Fine
+pub returns : goal.returns
 unfolding insert_evidence_check
-returns-in-Fine c = then_on _ c.patterns_check.ensures c.in-Fine.is c.trees.ensures
+returns c = then_on _ c.patterns_check.ensures c.in_ok-patterns_check.was c.trees.ensures
 
-pub returns-in-Refused : goal.returns-in-Refused
+pub returns-in_err-patterns_check : goal.returns-in_err-patterns_check
 unfolding insert_evidence_check
-returns-in-Refused c = then_off _ c.patterns_check.ensures c.in-Refused.is
+returns-in_err-patterns_check c = rw (handed c.from_residual.ensures) (then_off _ c.patterns_check.ensures c.in_err-patterns_check.was)

@@ -6,6 +6,3 @@ use Rattle.check_identities.proofs.out_of_order.Given as goal
 
 abbrev pub invariant-loop-v : goal.invariant-loop-v
 invariant-loop-v l = ZeroWhere l.count (Above l.ids) l.v × (0 < l.v) × (l.v ≤ l.used) × (l.count ≤ l.v)
-
-abbrev pub decreases-loop-v : goal.decreases-loop-v
-decreases-loop-v l = l.used - l.v

@@ -1,12 +1,12 @@
 -- The size first, then the axes.
 use Rattle.tables.specs.Checks.{pattern_check}
-use Rattle.tables.proofs.Branches.{then_on, then_off}
+use Rattle.tables.proofs.Branches.{handed, then_on, then_off}
 use Rattle.check_pattern.proofs.pattern.Goals as goal
 
-pub returns-in-Fine : goal.returns-in-Fine
+pub returns : goal.returns
 unfolding pattern_check
-returns-in-Fine c = then_on _ c.sized.ensures c.in-Fine.is c.axes.ensures
+returns c = then_on _ c.sized.ensures c.in_ok-sized.was c.axes.ensures
 
-pub returns-in-Refused : goal.returns-in-Refused
+pub returns-in_err-sized : goal.returns-in_err-sized
 unfolding pattern_check
-returns-in-Refused c = then_off _ c.sized.ensures c.in-Refused.is
+returns-in_err-sized c = rw (handed c.from_residual.ensures) (then_off _ c.sized.ensures c.in_err-sized.was)

@@ -13,7 +13,7 @@ loop-v-init c = (search rules, search each_start)
 
 pub returns-then-not-parent_right : goal.returns-then-not-parent_right
 unfolding node_check
-returns-then-not-parent_right c = each_off _ _ _ c.loop-v.invariant.1 c.loop-v-test.true (first_failed _ c.parent_right.ensures _ _ _ (ap not c.if-not-parent_right.true)) c.refused.ensures
+returns-then-not-parent_right c = each_off _ _ _ c.loop-v.invariant.1 c.loop-v-test.true (first_failed _ c.parent_right.ensures _ (ap not c.if-not-parent_right.true)) c.refused.ensures
 
 pub returns-then-not-named : goal.returns-then-not-named
 unfolding node_check

@@ -6,6 +6,3 @@ use Rattle.check_tree.proofs.nodes.Given as goal
 
 abbrev pub invariant-loop-v : goal.invariant-loop-v
 invariant-loop-v l = (l.v ≤ l.n) × (each (node_check l.t l.table) 0 l.n ≡ each (node_check l.t l.table) l.v (l.n - l.v))
-
-abbrev pub decreases-loop-v : goal.decreases-loop-v
-decreases-loop-v l = l.n - l.v

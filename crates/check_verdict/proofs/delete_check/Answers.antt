@@ -1,25 +1,12 @@
 -- The tables first, then the room.
-use Rattle.tables.proofs.Branches.{then_on, then_off}
+use Rattle.tables.proofs.Branches.{handed, then_on, then_off}
 use Rattle.check_verdict.specs.Order.{delete_verdict_check}
-use borrow.Author.Rules.{rules}
 use Rattle.check_verdict.proofs.delete_check.Goals as goal
 
-pub deep_delete_check-requires : goal.deep_delete_check-requires
-deep_delete_check-requires c = search rules
-
-pub enum_told-1 : goal.enum_told-1
-enum_told-1 c = search rules
-
-pub room-requires : goal.room-requires
-room-requires c = search rules
-
-pub enum_known-why : goal.enum_known-why
-enum_known-why c = search rules
-
-pub returns-in-Fine : goal.returns-in-Fine
+pub returns : goal.returns
 unfolding delete_verdict_check
-returns-in-Fine c = then_on _ c.deep_delete_check.ensures c.in-Fine.is c.room.ensures
+returns c = then_on _ c.deep_delete_check.ensures c.in_ok-deep_delete_check.was c.room.ensures
 
-pub returns-in-Refused : goal.returns-in-Refused
+pub returns-in_err-deep_delete_check : goal.returns-in_err-deep_delete_check
 unfolding delete_verdict_check
-returns-in-Refused c = then_off _ c.deep_delete_check.ensures c.in-Refused.is
+returns-in_err-deep_delete_check c = rw (handed c.from_residual.ensures) (then_off _ c.deep_delete_check.ensures c.in_err-deep_delete_check.was)

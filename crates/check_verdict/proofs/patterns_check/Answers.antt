@@ -1,25 +1,12 @@
 -- The read first, then the update.
-use Rattle.tables.proofs.Branches.{then_on, then_off}
+use Rattle.tables.proofs.Branches.{handed, then_on, then_off}
 use Rattle.check_verdict.specs.Order.{patterns_check}
-use borrow.Author.Rules.{rules}
 use Rattle.check_verdict.proofs.patterns_check.Goals as goal
 
-pub pattern-requires : goal.pattern-requires
-pattern-requires c = search rules
-
-pub enum_told-1 : goal.enum_told-1
-enum_told-1 c = search rules
-
-pub pattern-requires-in-Fine : goal.pattern-requires-in-Fine
-pattern-requires-in-Fine c = search rules
-
-pub enum_known-why : goal.enum_known-why
-enum_known-why c = search rules
-
-pub returns-in-Fine : goal.returns-in-Fine
+pub returns : goal.returns
 unfolding patterns_check
-returns-in-Fine c = then_on _ c.pattern.ensures c.in-Fine.is c.pattern-in-Fine.ensures
+returns c = then_on _ c.pattern.ensures c.in_ok-pattern.was c.pattern-2.ensures
 
-pub returns-in-Refused : goal.returns-in-Refused
+pub returns-in_err-pattern : goal.returns-in_err-pattern
 unfolding patterns_check
-returns-in-Refused c = then_off _ c.pattern.ensures c.in-Refused.is
+returns-in_err-pattern c = rw (handed c.from_residual.ensures) (then_off _ c.pattern.ensures c.in_err-pattern.was)

@@ -2,7 +2,7 @@
 -- call's name, or sloefertand_v2_ and that of a call that takes identities, promises the same, by the numbers of the answer.
 
 -- numbers, lists and logic, of the kit's library; Perm xs ys: ys has what xs has, in some order
-pub use Rattle.std.specs.Prelude.{ℕ, suc, ◌+◌, ◌*◌, ◌-◌, ◌/◌, ◌<◌, ◌≤◌, ◌≡◌, true, false, ◌⊎◌, ◌↔◌, ◌≢◌, length, get_or, set, take, drop}
+pub use Rattle.std.specs.Prelude.{ℕ, suc, ◌+◌, ◌*◌, ◌-◌, ◌/◌, ◌<◌, ◌≤◌, ◌≡◌, Bool, true, false, Option, Some, None, Result, Ok, Err, ◌⊎◌, ◌↔◌, ◌≢◌, length, get_or, set, take, drop}
 pub use mathlib.Core.List.{List, [], ◌∷◌, ◌++◌, map, Perm}
 -- words of tables, documents, refusals; the checks of patterns, trees and documents are promised by the functions of those names
 pub use Rattle.tables.specs.Limits.{tree_limit, batch_limit, digit_limit}
@@ -10,10 +10,11 @@ pub use Rattle.tables.specs.Words.{steps, axis, nodes, tag, Bits16}
 pub use Rattle.tables.specs.Patterns.{Pattern}
 pub use Rattle.tables.specs.Documents.{Doc, doc, bare, mark, present, Sound}
 pub use Rattle.tables.specs.declared.refusal.Refusal.{Refusal}
-pub use Rattle.tables.specs.declared.refusal.Checked.{Checked}
-pub use Rattle.tables.specs.declared.refusal.Checked.TheVariants.{Fine, Refused}
-pub use Rattle.tables.specs.Checks.{◌then◌, refuse, output_check, pattern_check, tree_check, used_check, shape_check}
+pub use Rattle.tables.specs.Refusals.{number as reason_number}
+pub use Rattle.tables.specs.Checks.{Checked, Fine, ◌then◌, refuse, output_check, pattern_check, tree_check, used_check, shape_check}
 -- the numbers that go out to C: what each exported function returns
+pub use Rattle.outcomes.specs.declared.updates.Inserted.{Inserted}
+pub use Rattle.outcomes.specs.declared.updates.Compacted.{Compacted}
 pub use Rattle.c_answer.specs.declared.answer.Answer.{Answer}
 pub use Rattle.c_answer.specs.Answers.{refusing, Told}
 pub use Rattle.c_numbers.specs.Numbers.{of_checked, of_deleted, of_inserted, of_compacted, of_mended, of_verdict, of_deeply, of_evidence}
@@ -26,7 +27,7 @@ pub use Rattle.selection.specs.Rows.{Row}
 pub use Rattle.selection.specs.Ways.{selected}
 pub use Rattle.selection.specs.Operations.{copies}
 -- documents with identities: whole_check is promised by whole and by check_document; what an update does to them, and the sets of identities that a read selects
-pub use Rattle.identities.specs.Documents.{Document, document as documentOf, identity, Identified, SoundDocument}
+pub use Rattle.identities.specs.Documents.{Document, document as document_of, identity, Identified, SoundDocument}
 pub use Rattle.identities.specs.Checks.{identities_check, whole_check}
 pub use Rattle.identities.specs.Updates.{after_in as after-in, nameable, room_of, fits_in}
 pub use Rattle.identities.specs.Compaction.{dropped, compacted}
@@ -43,13 +44,6 @@ pub use Rattle.doc_mend.specs.Promise.{mend_check, Mend}
 pub use Rattle.mending.specs.ByWords.{MendedBy}
 pub use Rattle.mending.specs.Sets.{SoundSet, LargestSound}
 pub use Rattle.mending.specs.Undoing.{undone, redone}
-pub use Rattle.outcomes.specs.declared.updates.Compacted.{Compacted}
-pub use Rattle.outcomes.specs.declared.updates.Compacted.TheVariants as closing
-pub use Rattle.outcomes.specs.declared.updates.Deleted.{Deleted}
-pub use Rattle.outcomes.specs.declared.updates.Deleted.TheVariants as deleted
-pub use Rattle.outcomes.specs.declared.updates.Inserted.TheVariants as inserted
-pub use Rattle.outcomes.specs.declared.updates.Mended.{Mended}
-pub use Rattle.outcomes.specs.declared.updates.Mended.TheVariants as mending
 pub use Rattle.demands.specs.Updates.{DeletedBy, AllDeletedBy, InsertedBy, NamedBy, Compacts, ClosedBy, Mends}
 -- verdicts: NodeVerdict is promised by delete_verdict and insert_verdict, DeepVerdict by deep_delete_verdict and deep_insert_verdict, Checks by
 -- delete_evidence and insert_evidence
@@ -57,28 +51,19 @@ pub use Rattle.conflict.specs.Conflict.{Update, delete, insert, pattern, after a
 pub use Rattle.check_verdict.specs.Order.{verdict_check, deep_check}
 pub use Rattle.verdict.specs.Promise.{NodeVerdict, witness_nodes}
 pub use Rattle.verdict_deep.specs.Promise.{DeepVerdict}
-pub use Rattle.outcomes.specs.declared.verdicts.Verdict.{Verdict}
-pub use Rattle.outcomes.specs.declared.verdicts.Verdict.TheVariants as verdict
-pub use Rattle.outcomes.specs.declared.verdicts.Deeply.{Deeply}
-pub use Rattle.outcomes.specs.declared.verdicts.Deeply.TheVariants as deep
 pub use Rattle.check_evidence.specs.Order.{evidence_check}
 pub use Rattle.verdict_evidence.specs.Promise.{Lost, Gained, Checks, shown_node}
-pub use Rattle.outcomes.specs.declared.verdicts.Evidence.{Evidence}
-pub use Rattle.outcomes.specs.declared.verdicts.Evidence.TheVariants as evidence
 pub use Rattle.marked.specs.Marked.{Marked}
 -- batches: step_at is promised by the walker's next and by step, place_after and number_after by its moved, Plan by plan, PlanIn by plan_in, PlanOf by plan_by
 pub use Rattle.order.specs.Frames.{Frame, At, read, update, earlier, number}
 pub use Rattle.batch_walk.specs.Walking.{walk_check, step_at, place_after, number_after}
 pub use Rattle.batch_walk.specs.Walk.{call_place, call_gives, first_parts, GivesFrame, StopsAt}
 pub use Rattle.batch_frame.specs.Faults.{named}
-pub use Rattle.outcomes.specs.declared.frames.Stepped.TheVariants as walker
 pub use Rattle.batch_check.specs.Batches.{batch_of, batch_check, plan_check}
 pub use Rattle.batch_mode.specs.Modes.{relation_of, mode_check, mode_of}
 pub use Rattle.batch_mode.specs.declared.Mode.{Mode}
 pub use Rattle.batch_mode.specs.declared.Mode.TheVariants as mode
 pub use Rattle.batch_plan.specs.Batch.{PlanBy, PlanOf, Plan, plan_in_check, PlanIn, SlotIs}
-pub use Rattle.outcomes.specs.declared.plans.Planned.{Planned}
-pub use Rattle.outcomes.specs.declared.plans.Planned.TheVariants as planned
 -- orders of a batch, and a batch run call by call: when two runs give the same
 pub use Rattle.order.specs.Order.{Stands, Before, own}
 pub use Rattle.order_calls.specs.Calls.{Reply, Called, called, Run, Has, Runs, NoRoom, NoIdentities, Works, SameRuns}
@@ -88,19 +73,16 @@ pub use Rattle.order_deletes.specs.Deletes.{with_marks, Deletes, total, CalledIn
 pub use Rattle.order_compaction.specs.Numbers.{SameBatch, Roomy, Refuses}
 -- installations with other limits: their checks, and what one answers to what another accepts
 pub use Rattle.older.specs.Installations.{Installation, ours, before_longer, Within, longest, frame_in, take_in, batch_in, plan_in, pair_in, verdict_in}
-pub use Rattle.older.specs.Answers.{toFrame, toLine, longRead}
+pub use Rattle.older.specs.Answers.{to_frame, to_line, read_of_65}
 pub use Rattle.batch_frame.specs.Frames.{frame_check, frame_of, answered}
 pub use Rattle.outcomes.specs.declared.frames.Extent.{Extent}
-pub use Rattle.outcomes.specs.declared.frames.Framed.TheVariants as framed
 -- wider reads, updates and batches, and the examples of them
 pub use Rattle.wider.specs.Wider.{WiderPattern, WiderTree, WiderUpdate, Wider, Accepted, Widened}
 pub use Rattle.wider.specs.Batches.{WiderFrames, WidenedRead}
 pub use Rattle.wider.specs.Examples.{OnlyWider, a/c, a/any, a//d, c_alone, c_and_d}
 -- lines: ReadAs is promised by read_line, WrittenAs by write_line
 pub use Rattle.text_line_in.specs.Lines.{line_check, ReadAs}
-pub use Rattle.outcomes.specs.declared.texts.Parsed.TheVariants as parsed
 pub use Rattle.text_line_out.specs.Spelling.{WrittenAs}
-pub use Rattle.outcomes.specs.declared.texts.Spelled.TheVariants as spelled
 -- patterns as text: ReadText is promised by read_pattern, WriteText by write_pattern
 pub use Rattle.text_names.specs.Names.{NameList, BreaksAt, lines, list_check}
 pub use Rattle.text_parts.specs.Starts.{Longest}
@@ -108,7 +90,6 @@ pub use Rattle.text_pattern.specs.Texts.{RightText}
 pub use Rattle.text_pattern.specs.Meaning.{steps_of, text_check}
 pub use Rattle.text_pattern_in.specs.Reading.{read_text_check, ReadText}
 pub use Rattle.text_pattern_out.specs.Writing.{write_text_check, WriteText}
-pub use Rattle.outcomes.specs.declared.texts.Parsed.{Parsed}
 -- trees as tags: WriteTree is promised by write_tree, ReadTree by read_tree
 pub use Rattle.selection.specs.Embeddings.{Child}
 pub use Rattle.text_xml.specs.Decimal.{decimal, Decimal}
@@ -123,5 +104,3 @@ pub use Rattle.text_plan_lines.specs.Printing.{refusal_text}
 pub use Rattle.text_printer.specs.Printer.{take_check, Lines, stopped, taken, offset_in, PrintsFrames, Prints, PrintedAs}
 pub use Rattle.text_printer.specs.Faults.{LineFault}
 pub use Rattle.text_printer.specs.Enough.{printed_most, input_most}
-pub use Rattle.outcomes.specs.declared.texts.Printed.{Printed}
-pub use Rattle.outcomes.specs.declared.texts.Printed.TheVariants as printed

@@ -9,6 +9,3 @@ use Rattle.doc_copy.proofs.copier.Given as goal
 
 abbrev pub invariant-loop-k : goal.invariant-loop-k
 invariant-loop-k l = (l.k ≤ l.n) × (length l.free ≡ length l.initial.free) × (l.free ≡ held (copy_words l.x l.q l.base l.k) ++ drop (2 * l.k) l.initial.free)
-
-abbrev pub decreases-loop-k : goal.decreases-loop-k
-decreases-loop-k l = l.n - l.k

@@ -1,21 +1,7 @@
-use Prim.Native.Nat.{◌-◌}
+-- The first n marks are filled with 0.
 use mathlib.Core.Path.{refl}
-use native.Mathlib.Nat.{le_trans, lt_of_lt_of_le}
-use borrow.Author.Rules.{rules}
-use Rattle.selection.proofs.Filling.{row_start, row_more, row_long, row_within, row_end}
+use Rattle.selection.proofs.Filling.{front_filled}
 use Rattle.doc_copy.proofs.present.Goals as goal
 
-pub loop-k-init : goal.loop-k-init
-loop-k-init c = (search rules, row_start _ _)
-
-pub bounds-marks-k : goal.bounds-marks-k
-bounds-marks-k c = row_within _ _ _ c.loop-k.invariant.1 _ c.loop-k-test.true c.requires
-
-pub loop-k-preserved : goal.loop-k-preserved
-loop-k-preserved c = (search rules, row_more _ _ _ c.loop-k.invariant.1 (lt_of_lt_of_le c.loop-k-test.true c.requires) refl)
-
-pub shape_of-marks : goal.shape_of-marks
-shape_of-marks c = row_long _ _ _ c.loop-k.invariant.1 (le_trans c.loop-k.invariant.0 c.requires)
-
 pub returns : goal.returns
-returns c = row_end _ _ _ c.loop-k.invariant.1 _ c.loop-k.invariant.0 c.loop-k-test.false
+returns c = front_filled 0 _ _ c.requires (c.fill.ensures.after (λ y e. e))

@@ -9,6 +9,3 @@ use Rattle.doc_graft.proofs.grafts.Given as goal
 
 abbrev pub invariant-loop-v : goal.invariant-loop-v
 invariant-loop-v l = (l.v ≤ l.used) × (doc l.rows l.marks l.at ≡ copied_all l.x (rising (chosen l.row) l.v) (doc l.initial.rows l.initial.marks l.used))
-
-abbrev pub decreases-loop-v : goal.decreases-loop-v
-decreases-loop-v l = l.used - l.v

@@ -1,9 +1,10 @@
 -- The reading's checks, then the tree's.
 use Rattle.doc_updates.proofs.Asking.{asked-on, asked_off}
+use Rattle.tables.proofs.Branches.{handed}
 use Rattle.doc_insert.proofs.asked.Goals as goal
 
-pub returns-in-Fine : goal.returns-in-Fine
-returns-in-Fine c = asked-on _ _ _ c.requires _ c.reading.ensures c.in-Fine.is c.tree.ensures
+pub returns : goal.returns
+returns c = asked-on _ _ _ c.requires _ c.reading.ensures c.in_ok-reading.was c.tree.ensures
 
-pub returns-in-Refused : goal.returns-in-Refused
-returns-in-Refused c = asked_off _ _ _ c.requires _ c.reading.ensures c.in-Refused.is
+pub returns-in_err-reading : goal.returns-in_err-reading
+returns-in_err-reading c = rw (handed c.from_residual.ensures) (asked_off _ _ _ c.requires _ c.reading.ensures c.in_err-reading.was)

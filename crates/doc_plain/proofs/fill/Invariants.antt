@@ -11,6 +11,3 @@ use Rattle.doc_plain.proofs.fill.Given as goal
 
 abbrev pub invariant-loop-v : goal.invariant-loop-v
 invariant-loop-v l = (l.v ≤ l.n) × (l.row ≡ tab (λ v. cond (lands_on l.p l.t (last l.p) v) 1 0) l.v ++ drop l.v l.initial.row)
-
-abbrev pub decreases-loop-v : goal.decreases-loop-v
-decreases-loop-v l = l.n - l.v

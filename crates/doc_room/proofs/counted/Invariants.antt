@@ -7,6 +7,3 @@ use Rattle.doc_room.proofs.counted.Given as goal
 
 abbrev pub invariant-loop-v : goal.invariant-loop-v
 invariant-loop-v l = (l.v ≤ l.used) × (l.n ≤ l.v) × (l.n ≡ count (chosen l.row) l.v)
-
-abbrev pub decreases-loop-v : goal.decreases-loop-v
-decreases-loop-v l = l.used - l.v

@@ -8,6 +8,3 @@ use Rattle.pattern_masks.proofs.staying.Given as goal
 
 abbrev pub invariant-loop-i : goal.invariant-loop-i
 invariant-loop-i l = (l.i ≤ l.m) × Word (passed (stays l.p false) l.from l.i) 0 l.s
-
-abbrev pub decreases-loop-i : goal.decreases-loop-i
-decreases-loop-i l = l.m - l.i

@@ -7,6 +7,3 @@ use Rattle.text_line_in.proofs.characters.Given as goal
 
 abbrev pub invariant-loop-i : goal.invariant-loop-i
 invariant-loop-i l = (l.i ≤ l.n) × (each (character_check l.s l.line) 0 l.n ≡ each (character_check l.s l.line) l.i (l.n - l.i))
-
-abbrev pub decreases-loop-i : goal.decreases-loop-i
-decreases-loop-i l = l.n - l.i

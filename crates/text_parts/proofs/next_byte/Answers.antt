@@ -1,4 +1,3 @@
-use Prim.Native.Nat.{◌-◌}
 use Rattle.text_parts.proofs.Finding.{next_start, next_found, next-on, next_none}
 use Rattle.text_parts.proofs.next_byte.Goals as goal
 

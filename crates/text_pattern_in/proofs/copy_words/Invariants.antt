@@ -1,5 +1,5 @@
 -- The words below i are written, the others as they were.
-use Prim.Native.Nat.{◌≤◌, ◌-◌}
+use Prim.Native.Nat.{◌≤◌}
 use mathlib.Core.Path.{◌≡◌}
 use mathlib.Core.List.{◌++◌}
 use lib.ListN.{get_or, drop}
@@ -8,6 +8,3 @@ use Rattle.text_pattern_in.proofs.copy_words.Given as goal
 
 abbrev pub invariant-loop-i : goal.invariant-loop-i
 invariant-loop-i l = (l.i ≤ l.n) × (l.words ≡ tab (λ j. get_or l.ws j 0) l.i ++ drop l.i l.initial.words)
-
-abbrev pub decreases-loop-i : goal.decreases-loop-i
-decreases-loop-i l = l.n - l.i

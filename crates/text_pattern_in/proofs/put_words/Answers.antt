@@ -1,12 +1,13 @@
 -- The room first; then the words are written, or nothing changes.
+use Rattle.tables.proofs.Branches.{handed}
 use Rattle.text_pattern_in.proofs.Promise.{put_room, put_fine, put_off}
 use Rattle.text_pattern_in.proofs.put_words.Goals as goal
 
 pub copy_words-requires : goal.copy_words-requires
-copy_words-requires c = put_room c.args.ws.now c.args.words.now c.output.ensures c.in-Fine.is
+copy_words-requires c = put_room c.args.ws.now c.args.words.now c.output.ensures c.in_ok-output.was
 
-pub returns-in-Fine : goal.returns-in-Fine
-returns-in-Fine c = put_fine c.args.ws.now c.args.words.now c.output.ensures c.in-Fine.is c.copy_words.ensures
+pub returns : goal.returns
+returns c = put_fine c.args.ws.now c.args.words.now c.output.ensures c.in_ok-output.was c.copy_words.ensures
 
-pub returns-in-Refused : goal.returns-in-Refused
-returns-in-Refused c = put_off c.args.ws.now c.args.words.now c.output.ensures c.in-Refused.is
+pub returns-in_err-output : goal.returns-in_err-output
+returns-in_err-output c = rw (handed c.from_residual.ensures) (put_off c.args.ws.now c.args.words.now c.output.ensures c.in_err-output.was)

@@ -1,4 +1,3 @@
-use Prim.Native.Nat.{◌-◌}
 use native.Mathlib.Omega.{arith}
 use borrow.Author.Rules.{rules}
 use Rattle.text_printer.proofs.Going.{go_start, go_roomy, go_end, go_least, go_most, go_stop, go_used, go_place, go_on}
@@ -22,23 +21,23 @@ take_line-requires c = record { n_le_frame_limit = c.loop-at.invariant.few; room
 pub overflow_add-result : goal.overflow_add-result
 overflow_add-result c = omega (arith, c.loop-at.invariant.few)
 
-pub shape_of-kinds-in-Refused : goal.shape_of-kinds-in-Refused
-shape_of-kinds-in-Refused c = c.loop-at.invariant.frames
+pub shape_of-kinds-in-Err : goal.shape_of-kinds-in-Err
+shape_of-kinds-in-Err c = c.loop-at.invariant.frames
 
-pub returns-in-Refused : goal.returns-in-Refused
-returns-in-Refused c = go_stop c.loop-at.invariant c.requires.digit_limit_in_bounds c.requires.frame_limit_in_bounds c.loop-at-test.true c.next_byte-end.ensures c.take_line.new.batch c.take_line.result c.take_line.ensures c.in-Refused.is
+pub returns-in-Err : goal.returns-in-Err
+returns-in-Err c = go_stop c.loop-at.invariant c.requires.digit_limit_in_bounds c.requires.frame_limit_in_bounds c.loop-at-test.true c.next_byte-end.ensures c.take_line.new.batch c.take_line.result c.take_line.ensures c.in-Err.is
 
 pub offset_bounds-batch-used : goal.offset_bounds-batch-used
 offset_bounds-batch-used c = omega (arith, c.loop-at.invariant.within)
 
 pub bounds-batch-used : goal.bounds-batch-used
-bounds-batch-used c = go_used c.loop-at.invariant c.requires.digit_limit_in_bounds c.requires.frame_limit_in_bounds c.loop-at-test.true c.next_byte-end.ensures c.take_line.new.batch c.take_line.result c.take_line.ensures c.in-Words.is
+bounds-batch-used c = go_used c.loop-at.invariant c.requires.digit_limit_in_bounds c.requires.frame_limit_in_bounds c.loop-at-test.true c.next_byte-end.ensures c.take_line.new.batch c.take_line.result c.take_line.ensures c.in-Ok.is
 
 pub offset_bounds-kinds-n : goal.offset_bounds-kinds-n
 offset_bounds-kinds-n c = omega (arith, c.loop-at.invariant.few)
 
 pub bounds-kinds-n : goal.bounds-kinds-n
-bounds-kinds-n c = go_place c.loop-at.invariant c.requires.digit_limit_in_bounds c.requires.frame_limit_in_bounds c.loop-at-test.true c.next_byte-end.ensures c.take_line.new.batch c.take_line.result c.take_line.ensures c.in-Words.is
+bounds-kinds-n c = go_place c.loop-at.invariant c.requires.digit_limit_in_bounds c.requires.frame_limit_in_bounds c.loop-at-test.true c.next_byte-end.ensures c.take_line.new.batch c.take_line.result c.take_line.ensures c.in-Ok.is
 
 pub overflow_add-n : goal.overflow_add-n
 overflow_add-n c = omega (arith, c.loop-at.invariant.few)
@@ -50,7 +49,7 @@ pub loop-at-smaller : goal.loop-at-smaller
 loop-at-smaller c = omega (arith, go_least c.loop-at.invariant c.requires.digit_limit_in_bounds c.requires.frame_limit_in_bounds c.loop-at-test.true c.next_byte-end.ensures, c.loop-at-test.true)
 
 pub loop-at-preserved : goal.loop-at-preserved
-loop-at-preserved c = go_on c.loop-at.invariant c.requires.digit_limit_in_bounds c.requires.frame_limit_in_bounds c.loop-at-test.true c.next_byte-end.ensures c.take_line.new.batch c.take_line.result c.take_line.ensures c.in-Words.is
+loop-at-preserved c = go_on c.loop-at.invariant c.requires.digit_limit_in_bounds c.requires.frame_limit_in_bounds c.loop-at-test.true c.next_byte-end.ensures c.take_line.new.batch c.take_line.result c.take_line.ensures c.in-Ok.is
 
 pub shape_of-batch : goal.shape_of-batch
 shape_of-batch c = c.loop-at.invariant.words

@@ -5,10 +5,10 @@ use Rattle.verdict_meeting.proofs.Admitted.{met-on, met_off}
 use Rattle.verdict_meeting.proofs.meet.Goals as goal
 
 pub shortest-requires : goal.shortest-requires
-shortest-requires c = patterns_bounded _ _ (sym c.patterns_check.ensures ∙ c.in-Fine.is)
+shortest-requires c = patterns_bounded _ _ (sym c.patterns_check.ensures ∙ c.in-Ok.is)
 
-pub returns-in-Fine : goal.returns-in-Fine
-returns-in-Fine c = met-on _ _ c.patterns_check.ensures _ _ c.in-Fine.is c.shortest.ensures
+pub returns-in-Ok : goal.returns-in-Ok
+returns-in-Ok c = met-on _ _ c.patterns_check.ensures _ _ c.in-Ok.is c.shortest.ensures
 
-pub returns-in-Refused : goal.returns-in-Refused
-returns-in-Refused c = met_off _ _ c.patterns_check.ensures _ _ _ c.in-Refused.is
+pub returns-in-Err : goal.returns-in-Err
+returns-in-Err c = met_off _ _ c.patterns_check.ensures _ _ _ c.in-Err.is

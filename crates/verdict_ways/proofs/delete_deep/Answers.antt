@@ -5,10 +5,10 @@ use Rattle.tables.proofs.Branches.{fine_on, fine_off}
 use Rattle.verdict_ways.proofs.delete_deep.Goals as goal
 
 pub both_hit-requires : goal.both_hit-requires
-both_hit-requires c = sym c.deep_delete_check.ensures ∙ c.in-Fine.is
+both_hit-requires c = sym c.deep_delete_check.ensures ∙ c.in-Ok.is
 
-pub returns-in-Fine : goal.returns-in-Fine
-returns-in-Fine c = fine_on (λ b. c.both_hit.result ≡ b) c.deep_delete_check.ensures _ _ c.in-Fine.is c.both_hit.ensures
+pub returns-in-Ok : goal.returns-in-Ok
+returns-in-Ok c = fine_on (λ b. c.both_hit.result ≡ b) c.deep_delete_check.ensures _ _ c.in-Ok.is c.both_hit.ensures
 
-pub returns-in-Refused : goal.returns-in-Refused
-returns-in-Refused c = fine_off (λ b. false ≡ b) c.deep_delete_check.ensures _ _ c.in-Refused.is refl
+pub returns-in-Err : goal.returns-in-Err
+returns-in-Err c = fine_off (λ b. false ≡ b) c.deep_delete_check.ensures _ _ c.in-Err.is refl

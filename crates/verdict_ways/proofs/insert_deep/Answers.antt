@@ -5,10 +5,10 @@ use Rattle.tables.proofs.Branches.{fine_on, fine_off}
 use Rattle.verdict_ways.proofs.insert_deep.Goals as goal
 
 pub entered_or_hit-requires : goal.entered_or_hit-requires
-entered_or_hit-requires c = sym c.deep_insert_check.ensures ∙ c.in-Fine.is
+entered_or_hit-requires c = sym c.deep_insert_check.ensures ∙ c.in-Ok.is
 
-pub returns-in-Fine : goal.returns-in-Fine
-returns-in-Fine c = fine_on (λ b. c.entered_or_hit.result ≡ b) c.deep_insert_check.ensures _ _ c.in-Fine.is c.entered_or_hit.ensures
+pub returns-in-Ok : goal.returns-in-Ok
+returns-in-Ok c = fine_on (λ b. c.entered_or_hit.result ≡ b) c.deep_insert_check.ensures _ _ c.in-Ok.is c.entered_or_hit.ensures
 
-pub returns-in-Refused : goal.returns-in-Refused
-returns-in-Refused c = fine_off (λ b. false ≡ b) c.deep_insert_check.ensures _ _ c.in-Refused.is refl
+pub returns-in-Err : goal.returns-in-Err
+returns-in-Err c = fine_off (λ b. false ≡ b) c.deep_insert_check.ensures _ _ c.in-Err.is refl

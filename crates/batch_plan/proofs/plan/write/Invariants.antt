@@ -14,6 +14,3 @@ decreases-loop-j l = l.j
 
 abbrev pub invariant-loop-k : goal.invariant-loop-k
 invariant-loop-k l = Walked (relation_of l.mode) l.b l.n l.initial.out l.out l.places l.updates l.at l.k
-
-abbrev pub decreases-loop-k : goal.decreases-loop-k
-decreases-loop-k l = l.n - l.k

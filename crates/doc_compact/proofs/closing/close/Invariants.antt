@@ -7,6 +7,3 @@ use Rattle.doc_compact.proofs.closing.close.Given as goal
 
 abbrev pub invariant-loop-v : goal.invariant-loop-v
 invariant-loop-v l = (l.v ≤ l.used) × ((next : ℕ) → ClosedTo (with (doc l.initial.rows l.initial.marks l.used) l.initial.ids next) l.initial.places l.v l.rows l.marks l.ids l.places l.m)
-
-abbrev pub decreases-loop-v : goal.decreases-loop-v
-decreases-loop-v l = l.used - l.v

@@ -10,6 +10,3 @@ use Rattle.doc_delete.proofs.striking.strike.Given as goal
 
 abbrev pub invariant-loop-v : goal.invariant-loop-v
 invariant-loop-v l = (l.v ≤ l.used) × (l.n ≤ l.v) × (length l.row ≡ length l.initial.row) × (length l.marks ≡ length l.initial.marks) × ((p : List ℕ) → Chosen p (doc l.rows l.initial.marks l.used) l.initial.row → StruckTo p (doc l.rows l.initial.marks l.used) l.initial.row l.v l.row l.marks l.n)
-
-abbrev pub decreases-loop-v : goal.decreases-loop-v
-decreases-loop-v l = l.used - l.v

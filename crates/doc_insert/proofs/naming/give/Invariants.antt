@@ -8,6 +8,3 @@ use Rattle.doc_insert.proofs.naming.give.Given as goal
 
 abbrev pub invariant-loop-k : goal.invariant-loop-k
 invariant-loop-k l = (l.k ≤ l.n) × (l.free ≡ tab (λ i. l.next + i) l.k ++ drop l.k l.initial.free)
-
-abbrev pub decreases-loop-k : goal.decreases-loop-k
-decreases-loop-k l = l.n - l.k

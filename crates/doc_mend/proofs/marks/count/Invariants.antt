@@ -6,6 +6,3 @@ use Rattle.doc_mend.proofs.marks.count.Given as goal
 
 abbrev pub invariant-loop-v : goal.invariant-loop-v
 invariant-loop-v l = CountedTo (doc l.t l.m l.used) l.initial.row l.v l.row l.n × (l.v ≤ l.used)
-
-abbrev pub decreases-loop-v : goal.decreases-loop-v
-decreases-loop-v l = l.used - l.v

@@ -6,6 +6,3 @@ use Rattle.doc_mend.proofs.marks.put_all.Given as goal
 
 abbrev pub invariant-loop-v : goal.invariant-loop-v
 invariant-loop-v l = PutTo (doc l.t l.initial.marks l.used) l.initial.list l.v l.marks l.list l.at × (l.v ≤ l.used)
-
-abbrev pub decreases-loop-v : goal.decreases-loop-v
-decreases-loop-v l = l.used - l.v

@@ -11,6 +11,3 @@ use Rattle.doc_read.proofs.pass.passed.Given as goal
 
 abbrev pub invariant-loop-v : goal.invariant-loop-v
 invariant-loop-v l = (l.v ≤ l.used) × Held l.p l.rows l.from l.v l.sets × (length l.sets ≡ length l.initial.sets) × (0 < l.v → l.own ≡ get_or l.sets (pred l.v) 0) × (l.row ≡ tab (shown_byte l.p l.wanted (doc l.rows l.marks l.used) (l.from + word_steps)) l.v ++ drop l.v l.initial.row)
-
-abbrev pub decreases-loop-v : goal.decreases-loop-v
-decreases-loop-v l = l.used - l.v

@@ -3,8 +3,8 @@ use Rattle.check_identities.proofs.Refusing.{found_right, found_wrong}
 use Rattle.doc_read.proofs.Laws.{read_tables, read_refused_whole}
 use Rattle.doc_read.proofs.read.read.Goals as goal
 
-pub returns-in-Fine : goal.returns-in-Fine
-returns-in-Fine c = read_tables (found_right _ c.identities.ensures c.in-Fine.is) c.reading.ensures
+pub returns-in-Ok : goal.returns-in-Ok
+returns-in-Ok c = read_tables (found_right _ c.identities.ensures c.in-Ok.is) c.reading.ensures
 
-pub returns-in-Refused : goal.returns-in-Refused
-returns-in-Refused c = read_refused_whole (found_wrong _ c.identities.ensures c.in-Refused.is c.refusal_before.ensures)
+pub returns-in-Err : goal.returns-in-Err
+returns-in-Err c = read_refused_whole (found_wrong _ c.identities.ensures c.in-Err.is c.refusal_before.ensures)

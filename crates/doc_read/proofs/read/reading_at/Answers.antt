@@ -1,12 +1,13 @@
 -- The row is written only where every check is fine.
 use Rattle.doc_read.proofs.Meeting.{fine_readable, read_fine, read_refused}
+use Rattle.tables.proofs.Branches.{handed}
 use Rattle.doc_read.proofs.read.reading_at.Goals as goal
 
 pub filled-requires : goal.filled-requires
-filled-requires c = fine_readable _ _ _ _ c.checked.ensures c.in-Fine.is
+filled-requires c = fine_readable _ _ _ _ c.checked.ensures c.in_ok-checked.was
 
-pub returns-in-Fine : goal.returns-in-Fine
-returns-in-Fine c = read_fine _ _ _ _ c.checked.ensures c.in-Fine.is _ c.filled.ensures
+pub returns : goal.returns
+returns c = read_fine _ _ _ _ c.checked.ensures c.in_ok-checked.was _ c.filled.ensures
 
-pub returns-in-Refused : goal.returns-in-Refused
-returns-in-Refused c = read_refused _ _ _ _ c.checked.ensures c.in-Refused.is _
+pub returns-in_err-checked : goal.returns-in_err-checked
+returns-in_err-checked c = rw (handed c.from_residual.ensures) (read_refused _ _ _ _ c.checked.ensures c.in_err-checked.was _)

@@ -10,6 +10,3 @@ use Rattle.doc_read.proofs.row.carry_over.Given as goal
 
 abbrev pub invariant-loop-v : goal.invariant-loop-v
 invariant-loop-v l = (l.v ≤ l.used) × (l.carry ≡ tab (λ u. bool_byte (bit (get_or l.sets u 0) 63)) l.v ++ drop l.v l.initial.carry)
-
-abbrev pub decreases-loop-v : goal.decreases-loop-v
-decreases-loop-v l = l.used - l.v

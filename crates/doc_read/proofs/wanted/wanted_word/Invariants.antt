@@ -7,6 +7,3 @@ use Rattle.doc_read.proofs.wanted.wanted_word.Given as goal
 
 abbrev pub invariant-loop-i : goal.invariant-loop-i
 invariant-loop-i l = (l.i ≤ l.m) × Word (passed (asked l.p l.wanted) l.from l.i) 0 l.s
-
-abbrev pub decreases-loop-i : goal.decreases-loop-i
-decreases-loop-i l = l.m - l.i

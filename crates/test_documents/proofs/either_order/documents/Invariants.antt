@@ -4,6 +4,3 @@ use Rattle.test_documents.proofs.either_order.documents.Given as goal
 
 abbrev pub invariant-loop-t : goal.invariant-loop-t
 invariant-loop-t l = l.from ≤ l.t
-
-abbrev pub decreases-loop-t : goal.decreases-loop-t
-decreases-loop-t l = l.to - l.t

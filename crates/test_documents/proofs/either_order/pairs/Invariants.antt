@@ -4,6 +4,3 @@ use Rattle.test_documents.proofs.either_order.pairs.Given as goal
 
 abbrev pub invariant-loop-c : goal.invariant-loop-c
 invariant-loop-c l = l.c ≤ 324
-
-abbrev pub decreases-loop-c : goal.decreases-loop-c
-decreases-loop-c l = 324 - l.c

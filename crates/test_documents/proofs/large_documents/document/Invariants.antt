@@ -6,6 +6,3 @@ use Rattle.test_documents.proofs.large_documents.document.Given as goal
 
 abbrev pub invariant-loop-v : goal.invariant-loop-v
 invariant-loop-v l = (l.v ≤ 1024) × (length l.rows ≡ length l.initial.rows) × (length l.marks ≡ length l.initial.marks)
-
-abbrev pub decreases-loop-v : goal.decreases-loop-v
-decreases-loop-v l = 1024 - l.v

@@ -6,6 +6,3 @@ use Rattle.test_documents.proofs.large_documents.identities.Given as goal
 
 abbrev pub invariant-loop-v : goal.invariant-loop-v
 invariant-loop-v l = (l.v ≤ 1024) × (length l.ids ≡ length l.initial.ids)
-
-abbrev pub decreases-loop-v : goal.decreases-loop-v
-decreases-loop-v l = 1024 - l.v

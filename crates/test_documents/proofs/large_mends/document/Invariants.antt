@@ -6,6 +6,3 @@ use Rattle.test_documents.proofs.large_mends.document.Given as goal
 
 abbrev pub invariant-loop-v : goal.invariant-loop-v
 invariant-loop-v l = (l.v ≤ 4096) × (length l.table ≡ length l.initial.table) × (length l.marks ≡ length l.initial.marks) × (length l.ids ≡ length l.initial.ids)
-
-abbrev pub decreases-loop-v : goal.decreases-loop-v
-decreases-loop-v l = 4096 - l.v

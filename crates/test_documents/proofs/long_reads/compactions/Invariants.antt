@@ -4,6 +4,3 @@ use Rattle.test_documents.proofs.long_reads.compactions.Given as goal
 
 abbrev pub invariant-loop-d : goal.invariant-loop-d
 invariant-loop-d l = l.d ≤ 12
-
-abbrev pub decreases-loop-d : goal.decreases-loop-d
-decreases-loop-d l = 12 - l.d

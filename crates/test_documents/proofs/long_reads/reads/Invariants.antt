@@ -4,6 +4,3 @@ use Rattle.test_documents.proofs.long_reads.reads.Given as goal
 
 abbrev pub invariant-loop-c : goal.invariant-loop-c
 invariant-loop-c l = l.c ≤ 512
-
-abbrev pub decreases-loop-c : goal.decreases-loop-c
-decreases-loop-c l = 512 - l.c

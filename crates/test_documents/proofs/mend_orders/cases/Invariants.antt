@@ -4,6 +4,3 @@ use Rattle.test_documents.proofs.mend_orders.cases.Given as goal
 
 abbrev pub invariant-loop-c : goal.invariant-loop-c
 invariant-loop-c l = l.c ≤ 400
-
-abbrev pub decreases-loop-c : goal.decreases-loop-c
-decreases-loop-c l = 400 - l.c

@@ -4,6 +4,3 @@ use Rattle.test_documents.proofs.mends.room_lines.Given as goal
 
 abbrev pub invariant-loop-room : goal.invariant-loop-room
 invariant-loop-room l = l.room ≤ 14
-
-abbrev pub decreases-loop-room : goal.decreases-loop-room
-decreases-loop-room l = 14 - l.room

@@ -4,6 +4,3 @@ use Rattle.test_documents.proofs.mends.sounds.Given as goal
 
 abbrev pub invariant-loop-c : goal.invariant-loop-c
 invariant-loop-c l = l.c ≤ l.count
-
-abbrev pub decreases-loop-c : goal.decreases-loop-c
-decreases-loop-c l = l.count - l.c

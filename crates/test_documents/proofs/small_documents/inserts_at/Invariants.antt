@@ -4,6 +4,3 @@ use Rattle.test_documents.proofs.small_documents.inserts_at.Given as goal
 
 abbrev pub invariant-loop-x : goal.invariant-loop-x
 invariant-loop-x l = l.x ≤ 66
-
-abbrev pub decreases-loop-x : goal.decreases-loop-x
-decreases-loop-x l = 66 - l.x

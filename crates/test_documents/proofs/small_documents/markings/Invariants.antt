@@ -4,6 +4,3 @@ use Rattle.test_documents.proofs.small_documents.markings.Given as goal
 
 abbrev pub invariant-loop-m : goal.invariant-loop-m
 invariant-loop-m l = l.m ≤ l.count
-
-abbrev pub decreases-loop-m : goal.decreases-loop-m
-decreases-loop-m l = l.count - l.m

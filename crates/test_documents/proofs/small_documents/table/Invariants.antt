@@ -4,6 +4,3 @@ use Rattle.test_documents.proofs.small_documents.table.Given as goal
 
 abbrev pub invariant-loop-t : goal.invariant-loop-t
 invariant-loop-t l = l.t ≤ 552
-
-abbrev pub decreases-loop-t : goal.decreases-loop-t
-decreases-loop-t l = 552 - l.t

@@ -6,6 +6,3 @@ use Rattle.test_parts.proofs.numbering.cleared.Given as goal
 
 abbrev pub invariant-loop-i : goal.invariant-loop-i
 invariant-loop-i l = (l.i ≤ length l.initial.t) × (length l.t ≡ length l.initial.t)
-
-abbrev pub decreases-loop-i : goal.decreases-loop-i
-decreases-loop-i l = length l.initial.t - l.i

@@ -6,6 +6,3 @@ use Rattle.test_parts.proofs.tree_tables.numbered.Given as goal
 
 abbrev pub invariant-loop-v : goal.invariant-loop-v
 invariant-loop-v l = (l.v ≤ l.n) × (length l.t ≡ length l.initial.t)
-
-abbrev pub decreases-loop-v : goal.decreases-loop-v
-decreases-loop-v l = l.n - l.v

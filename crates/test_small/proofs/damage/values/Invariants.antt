@@ -6,6 +6,3 @@ use Rattle.test_small.proofs.damage.values.Given as goal
 
 abbrev pub invariant-loop-value : goal.invariant-loop-value
 invariant-loop-value l = (l.value ≤ 65536) × (length l.words ≡ 32)
-
-abbrev pub decreases-loop-value : goal.decreases-loop-value
-decreases-loop-value l = 65536 - l.value

@@ -4,6 +4,3 @@ use Rattle.test_small.proofs.damaged_evidence.deletes.Given as goal
 
 abbrev pub invariant-loop-c : goal.invariant-loop-c
 invariant-loop-c l = l.c ≤ 156
-
-abbrev pub decreases-loop-c : goal.decreases-loop-c
-decreases-loop-c l = 156 - l.c

@@ -4,6 +4,3 @@ use Rattle.test_small.proofs.damaged_evidence.insert_lines.Given as goal
 
 abbrev pub invariant-loop-r : goal.invariant-loop-r
 invariant-loop-r l = l.r ≤ 12
-
-abbrev pub decreases-loop-r : goal.decreases-loop-r
-decreases-loop-r l = 12 - l.r

@@ -4,6 +4,3 @@ use Rattle.test_small.proofs.damaged_evidence.inserts.Given as goal
 
 abbrev pub invariant-loop-c : goal.invariant-loop-c
 invariant-loop-c l = l.c ≤ 2028
-
-abbrev pub decreases-loop-c : goal.decreases-loop-c
-decreases-loop-c l = 2028 - l.c

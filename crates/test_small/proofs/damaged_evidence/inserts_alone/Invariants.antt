@@ -4,6 +4,3 @@ use Rattle.test_small.proofs.damaged_evidence.inserts_alone.Given as goal
 
 abbrev pub invariant-loop-d : goal.invariant-loop-d
 invariant-loop-d l = l.d ≤ l.count
-
-abbrev pub decreases-loop-d : goal.decreases-loop-d
-decreases-loop-d l = l.count - l.d

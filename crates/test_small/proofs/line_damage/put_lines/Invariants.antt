@@ -6,6 +6,3 @@ use Rattle.test_small.proofs.line_damage.put_lines.Given as goal
 
 abbrev pub invariant-loop-n : goal.invariant-loop-n
 invariant-loop-n l = (l.n ≤ l.frames) × (length l.out ≡ length l.initial.out)
-
-abbrev pub decreases-loop-n : goal.decreases-loop-n
-decreases-loop-n l = l.frames - l.n

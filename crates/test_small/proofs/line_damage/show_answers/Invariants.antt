@@ -4,6 +4,3 @@ use Rattle.test_small.proofs.line_damage.show_answers.Given as goal
 
 abbrev pub invariant-loop-kind : goal.invariant-loop-kind
 invariant-loop-kind l = l.first ≤ l.kind
-
-abbrev pub decreases-loop-kind : goal.decreases-loop-kind
-decreases-loop-kind l = l.behind - l.kind

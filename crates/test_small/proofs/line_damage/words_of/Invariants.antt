@@ -5,6 +5,3 @@ use Rattle.test_small.proofs.line_damage.words_of.Given as goal
 
 abbrev pub invariant-loop-w : goal.invariant-loop-w
 invariant-loop-w l = l.w ≤ length l.b
-
-abbrev pub decreases-loop-w : goal.decreases-loop-w
-decreases-loop-w l = length l.b - l.w

@@ -4,6 +4,3 @@ use Rattle.test_small.proofs.mode_lines.show_kinds.Given as goal
 
 abbrev pub invariant-loop-n : goal.invariant-loop-n
 invariant-loop-n l = l.n ≤ l.frames
-
-abbrev pub decreases-loop-n : goal.decreases-loop-n
-decreases-loop-n l = l.frames - l.n

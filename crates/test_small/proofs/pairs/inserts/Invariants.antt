@@ -4,6 +4,3 @@ use Rattle.test_small.proofs.pairs.inserts.Given as goal
 
 abbrev pub invariant-loop-k : goal.invariant-loop-k
 invariant-loop-k l = l.k ≤ 129
-
-abbrev pub decreases-loop-k : goal.decreases-loop-k
-decreases-loop-k l = 129 - l.k

@@ -6,6 +6,3 @@ use Rattle.test_small.proofs.plans.appended.Given as goal
 
 abbrev pub invariant-loop-i : goal.invariant-loop-i
 invariant-loop-i l = (l.i ≤ length l.t) × (length l.b ≡ length l.initial.b)
-
-abbrev pub decreases-loop-i : goal.decreases-loop-i
-decreases-loop-i l = length l.t - l.i

@@ -6,6 +6,3 @@ use Rattle.test_small.proofs.plans.drafted.Given as goal
 
 abbrev pub invariant-loop-k : goal.invariant-loop-k
 invariant-loop-k l = (l.k ≤ l.frames) × (length l.b ≡ length l.initial.b)
-
-abbrev pub decreases-loop-k : goal.decreases-loop-k
-decreases-loop-k l = l.frames - l.k

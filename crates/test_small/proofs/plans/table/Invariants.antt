@@ -4,6 +4,3 @@ use Rattle.test_small.proofs.plans.table.Given as goal
 
 abbrev pub invariant-loop-n : goal.invariant-loop-n
 invariant-loop-n l = l.n ≤ 2000
-
-abbrev pub decreases-loop-n : goal.decreases-loop-n
-decreases-loop-n l = 2000 - l.n

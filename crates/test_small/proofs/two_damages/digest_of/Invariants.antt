@@ -4,6 +4,3 @@ use Rattle.test_small.proofs.two_damages.digest_of.Given as goal
 
 abbrev pub invariant-loop-kind : goal.invariant-loop-kind
 invariant-loop-kind l = l.kind ≤ 23
-
-abbrev pub decreases-loop-kind : goal.decreases-loop-kind
-decreases-loop-kind l = 23 - l.kind

@@ -5,6 +5,3 @@ use Rattle.test_small.proofs.two_damages.lines_of.Given as goal
 
 abbrev pub invariant-loop-later : goal.invariant-loop-later
 invariant-loop-later l = l.from ≤ l.later
-
-abbrev pub decreases-loop-later : goal.decreases-loop-later
-decreases-loop-later l = length l.b - l.later

@@ -4,6 +4,3 @@ use Rattle.test_small.proofs.wider.deletes.Given as goal
 
 abbrev pub invariant-loop-update : goal.invariant-loop-update
 invariant-loop-update l = l.update ≤ 129
-
-abbrev pub decreases-loop-update : goal.decreases-loop-update
-decreases-loop-update l = 129 - l.update

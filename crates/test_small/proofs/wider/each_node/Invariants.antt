@@ -4,6 +4,3 @@ use Rattle.test_small.proofs.wider.each_node.Given as goal
 
 abbrev pub invariant-loop-choice : goal.invariant-loop-choice
 invariant-loop-choice l = l.choice ≤ 6
-
-abbrev pub decreases-loop-choice : goal.decreases-loop-choice
-decreases-loop-choice l = 6 - l.choice

@@ -4,6 +4,3 @@ use Rattle.test_small.proofs.wider.reads.Given as goal
 
 abbrev pub invariant-loop-read : goal.invariant-loop-read
 invariant-loop-read l = l.read ≤ 129
-
-abbrev pub decreases-loop-read : goal.decreases-loop-read
-decreases-loop-read l = 129 - l.read

@@ -4,6 +4,3 @@ use Rattle.test_small.proofs.wider_plans.batches.Given as goal
 
 abbrev pub invariant-loop-n : goal.invariant-loop-n
 invariant-loop-n l = l.n ≤ 500
-
-abbrev pub decreases-loop-n : goal.decreases-loop-n
-decreases-loop-n l = 500 - l.n

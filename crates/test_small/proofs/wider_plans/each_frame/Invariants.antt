@@ -4,6 +4,3 @@ use Rattle.test_small.proofs.wider_plans.each_frame.Given as goal
 
 abbrev pub invariant-loop-f : goal.invariant-loop-f
 invariant-loop-f l = l.f ≤ l.frames
-
-abbrev pub decreases-loop-f : goal.decreases-loop-f
-decreases-loop-f l = l.frames - l.f

@@ -6,6 +6,3 @@ use Rattle.test_texts.proofs.deep_tags.put_starts.Given as goal
 
 abbrev pub invariant-loop-level : goal.invariant-loop-level
 invariant-loop-level l = length l.out ≡ length l.initial.out
-
-abbrev pub decreases-loop-level : goal.decreases-loop-level
-decreases-loop-level l = l.to - l.level

@@ -4,6 +4,3 @@ use Rattle.test_texts.proofs.single_bytes.lines_of.Given as goal
 
 abbrev pub invariant-loop-b : goal.invariant-loop-b
 invariant-loop-b l = l.b ≤ 256
-
-abbrev pub decreases-loop-b : goal.decreases-loop-b
-decreases-loop-b l = 256 - l.b

@@ -4,6 +4,3 @@ use Rattle.test_texts.proofs.text_patterns.rooms.Given as goal
 
 abbrev pub invariant-loop-room : goal.invariant-loop-room
 invariant-loop-room l = l.room ≤ 13
-
-abbrev pub decreases-loop-room : goal.decreases-loop-room
-decreases-loop-room l = 13 - l.room

@@ -6,6 +6,3 @@ use Rattle.test_vectors.proofs.identity_rows.numbers.Given as goal
 
 abbrev pub invariant-loop-k : goal.invariant-loop-k
 invariant-loop-k l = (l.k ≤ length l.line) × (length l.i ≡ length l.initial.i)
-
-abbrev pub decreases-loop-k : goal.decreases-loop-k
-decreases-loop-k l = length l.line - l.k

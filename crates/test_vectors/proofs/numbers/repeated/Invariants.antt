@@ -6,6 +6,3 @@ use Rattle.test_vectors.proofs.numbers.repeated.Given as goal
 
 abbrev pub invariant-loop-i : goal.invariant-loop-i
 invariant-loop-i l = length l.t ≡ length l.initial.t
-
-abbrev pub decreases-loop-i : goal.decreases-loop-i
-decreases-loop-i l = l.times - l.i

@@ -6,4 +6,4 @@ use Rattle.text_names.proofs.classes.class.Goals as goal
 
 pub returns : goal.returns
 unfolding classes
-returns c = class_at _ (search rules)
+returns c = rw c.from.ensures (class_at _ (search rules))

@@ -1,5 +1,4 @@
 -- The first byte, then the bytes that are left decide.
-use Prim.Native.Nat.{◌-◌}
 use mathlib.Core.Path.{◌≡◌}
 use lib.ListN.{drop}
 use Rattle.text_names.specs.Letters.{all_go, name}
@@ -7,6 +6,3 @@ use Rattle.text_names.proofs.names.is_name.Given as goal
 
 abbrev pub invariant-loop-i : goal.invariant-loop-i
 invariant-loop-i l = name l.s ≡ all_go (drop l.i l.s)
-
-abbrev pub decreases-loop-i : goal.decreases-loop-i
-decreases-loop-i l = l.n - l.i

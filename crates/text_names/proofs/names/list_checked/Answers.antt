@@ -1,8 +1,8 @@
-use Prim.Native.Nat.{ℕ, ◌-◌, ◌<◌}
+use Prim.Native.Nat.{ℕ, ◌<◌}
 use mathlib.Core.Bool.{true}
 use mathlib.Core.Path.{◌≡◌, refl}
 use mathlib.Core.List.{List, []}
-use lib.ListN.{length}
+use lib.ListN.{length, length-replicate}
 use native.Mathlib.Omega.{arith}
 use borrow.Author.Tests.{not-true, not-false}
 use borrow.Author.Rules.{rules}
@@ -31,7 +31,7 @@ start-marked marks e = none_marked marks e
 -- an entry that fits ends within the list
 
 pub loop-from-init : goal.loop-from-init
-loop-from-init c = (search rules, search rules, start-ended, start-counted, list_start _, start-marked _ c.free_slots-marks.ensures)
+loop-from-init c = (search rules, search rules, start-ended, start-counted, list_start _, start-marked _ (length-replicate {A = ℕ} slots 0))
 
 pub slice_bounds-slot-count : goal.slice_bounds-slot-count
 slice_bounds-slot-count c = (next-within _ _ c.loop-from.invariant.0 c.next_byte-to.ensures).0

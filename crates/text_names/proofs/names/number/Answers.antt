@@ -1,4 +1,3 @@
-use Prim.Native.Nat.{◌-◌}
 use native.Mathlib.Omega.{arith}
 use borrow.Author.Rules.{rules}
 use Rattle.text_names.proofs.Numbering.{number_start, number_open, number_here, number-on, number_end, next-within}

@@ -1,4 +1,3 @@
-use Prim.Native.Nat.{◌-◌}
 use borrow.Author.Rules.{rules}
 use Rattle.text_names.proofs.Same.{same_apart, same-on, same_off, same_end}
 use Rattle.text_names.proofs.names.same_bytes.Goals as goal

@@ -1,4 +1,3 @@
-use Prim.Native.Nat.{◌-◌}
 use mathlib.Core.Path.{refl}
 use borrow.Author.Rules.{rules}
 use Rattle.text_pattern_in.proofs.Scanned.{scan_start, scan_on, scan_off, scan_end, scan_short}
@@ -6,9 +5,6 @@ use Rattle.text_pattern_in.proofs.scan.text_checked.Goals as goal
 
 pub loop-i-init : goal.loop-i-init
 loop-i-init c = (search rules, refl, scan_start _)
-
-pub refused-requires : goal.refused-requires
-refused-requires c = search rules
 
 pub returns-then-q-gt4 : goal.returns-then-q-gt4
 returns-then-q-gt4 c = scan_off _ _ _ c.loop-i.invariant.1 c.loop-i.invariant.2 c.loop-i-test.true c.kind_at.ensures c.next-q.ensures c.if-q-gt4.true c.refused.ensures

@@ -1,4 +1,3 @@
-use Prim.Native.Nat.{◌-◌}
 use native.Mathlib.Omega.{arith}
 use Rattle.text_pattern_in.proofs.Left.{at_start, at_next, at_end, to_behind}
 use Rattle.text_pattern_in.proofs.steps.count_steps.Goals as goal

@@ -1,4 +1,3 @@
-use Prim.Native.Nat.{◌-◌}
 use native.Mathlib.Omega.{arith}
 use Rattle.text_pattern_in.proofs.Left.{to_behind}
 use Rattle.text_pattern_in.proofs.Taking.{took_start, took_long, took_room, took_off, took_next, took_end, label_some}

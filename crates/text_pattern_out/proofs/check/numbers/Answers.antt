@@ -1,4 +1,3 @@
-use Prim.Native.Nat.{◌-◌}
 use borrow.Author.Rules.{rules}
 use Rattle.tables.proofs.Each.{each_start, each_on, each_off, each_end}
 use Rattle.text_pattern_out.proofs.Promise.{number_fine, number_none}

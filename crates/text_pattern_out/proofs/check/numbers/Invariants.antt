@@ -8,6 +8,3 @@ use Rattle.text_pattern_out.proofs.check.numbers.Given as goal
 
 abbrev pub invariant-loop-i : goal.invariant-loop-i
 invariant-loop-i l = (l.i ≤ l.n) × (each (number_check (lines l.list) l.p) 0 l.n ≡ each (number_check (lines l.list) l.p) l.i (l.n - l.i))
-
-abbrev pub decreases-loop-i : goal.decreases-loop-i
-decreases-loop-i l = l.n - l.i

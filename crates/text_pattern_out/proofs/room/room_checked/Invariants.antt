@@ -11,6 +11,3 @@ use Rattle.text_pattern_out.proofs.room.room_checked.Given as goal
 
 abbrev pub invariant-loop-i : goal.invariant-loop-i
 invariant-loop-i l = (l.i ≤ l.n) × (room_check l.list l.p l.room ≡ output_check (length (spell (steps_from (lines l.list) l.p l.i (l.n - l.i)))) l.left)
-
-abbrev pub decreases-loop-i : goal.decreases-loop-i
-decreases-loop-i l = l.n - l.i

@@ -1,5 +1,4 @@
 -- Where the innermost level is not held, all that can be are.
-use Rattle.text_xml_in.proofs.Keeping.{inner_few, inner_many}
 use Rattle.text_xml_in.proofs.levels.hold_innermost.Goals as goal
 
 pub returns-then-q-ne1 : goal.returns-then-q-ne1
@@ -10,9 +9,3 @@ returns-then-low-d c = (c.requires.held, λ e h. c.if-low-d.true)
 
 pub recall-requires : goal.recall-requires
 recall-requires c = c.requires.recallable
-
-pub returns-then-d-lt-HELD_LEVELS : goal.returns-then-d-lt-HELD_LEVELS
-returns-then-d-lt-HELD_LEVELS c = inner_few _ _ _ _ c.recall.ensures c.if-d-lt-HELD_LEVELS.true
-
-pub returns : goal.returns
-returns c = inner_many _ _ _ _ c.recall.ensures

@@ -1,6 +1,4 @@
-use Prim.Native.Nat.{◌-◌}
 use mathlib.Core.Path.{sym, ◌∙◌}
-use native.Mathlib.Omega.{arith}
 use Rattle.text_xml_in.proofs.Recalling.{recall_start, recall_all, recall_small, recall_depth, recall_next}
 use Rattle.text_xml_in.proofs.levels.recall.Goals as goal
 
@@ -15,12 +13,6 @@ depth_on-e-requires c = recall_depth c.requires c.loop-j.invariant c.loop-j-test
 
 pub number_on-v-requires : goal.number_on-v-requires
 number_on-v-requires c = recall_small c.requires c.loop-j.invariant c.loop-j-test.true
-
-pub overflow_add-j : goal.overflow_add-j
-overflow_add-j c = omega arith
-
-pub loop-j-smaller : goal.loop-j-smaller
-loop-j-smaller c = omega arith
 
 pub loop-j-preserved : goal.loop-j-preserved
 loop-j-preserved c = recall_next c.requires c.loop-j.invariant c.loop-j-test.true c.byte-c.ensures c.note.ensures c.stage_on-q.ensures c.number_on-v.ensures c.depth_on-e.ensures

@@ -1,10 +1,6 @@
 -- The levels that can be held are noted as they come up again.
-use Prim.Native.Nat.{◌-◌}
 use Rattle.text_xml_in.proofs.Recalling.{Recalling}
 use Rattle.text_xml_in.proofs.levels.recall.Given as goal
 
 abbrev pub invariant-loop-j : goal.invariant-loop-j
 invariant-loop-j l = Recalling l.s l.i l.d l.row l.q l.v l.e l.j
-
-abbrev pub decreases-loop-j : goal.decreases-loop-j
-decreases-loop-j l = l.i - l.j

@@ -1,4 +1,3 @@
-use Prim.Native.Nat.{◌-◌}
 use Rattle.text_xml_in.proofs.Standing.{stands_small}
 use Rattle.text_xml_in.proofs.Filling.{filled_start, filled-length, filled_puttable, filled_next, filled_end}
 use Rattle.text_xml_in.proofs.rows.fill.Goals as goal

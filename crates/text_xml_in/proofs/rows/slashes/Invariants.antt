@@ -1,10 +1,6 @@
 -- The slashes before i are counted.
-use Prim.Native.Nat.{◌-◌}
 use Rattle.text_xml_in.proofs.Slashes.{Counted}
 use Rattle.text_xml_in.proofs.rows.slashes.Given as goal
 
 abbrev pub invariant-loop-i : goal.invariant-loop-i
 invariant-loop-i l = Counted l.s l.i l.k
-
-abbrev pub decreases-loop-i : goal.decreases-loop-i
-decreases-loop-i l = l.n - l.i

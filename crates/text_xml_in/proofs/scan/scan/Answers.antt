@@ -1,7 +1,4 @@
-use Prim.Native.Nat.{◌-◌}
 use mathlib.Core.Path.{sym, ◌∙◌}
-use native.Mathlib.Omega.{arith}
-use borrow.Author.Rules.{rules}
 use Rattle.text_xml_in.proofs.Scanned.{scan_start, scan_small, scan_depth, scan_byte, scan_off, scan_next, scan_end, scan_short}
 use mathlib.Core.Path.{ap}
 use mathlib.Core.Bool.{not}
@@ -12,9 +9,6 @@ loop-i-init c = scan_start _ _ c.requires
 
 pub fits-requires : goal.fits-requires
 fits-requires c = scan_small c.loop-i.invariant
-
-pub refused-requires : goal.refused-requires
-refused-requires c = search rules
 
 pub shape_of-row-then-not-fits : goal.shape_of-row-then-not-fits
 shape_of-row-then-not-fits c = c.loop-i.invariant.held.long ∙ sym c.requires
@@ -30,12 +24,6 @@ depth_on-d-requires c = scan_depth c.loop-i.invariant c.loop-i-test.true
 
 pub number_on-v-requires : goal.number_on-v-requires
 number_on-v-requires c = scan_small c.loop-i.invariant
-
-pub overflow_add-i : goal.overflow_add-i
-overflow_add-i c = omega (arith, c.loop-i-test.true)
-
-pub loop-i-smaller : goal.loop-i-smaller
-loop-i-smaller c = omega (arith, c.loop-i-test.true)
 
 pub loop-i-preserved : goal.loop-i-preserved
 loop-i-preserved c = scan_next c.loop-i.invariant _ c.hold-low.ensures c.stage_on-q.ensures c.number_on-v.ensures c.depth_on-d.ensures

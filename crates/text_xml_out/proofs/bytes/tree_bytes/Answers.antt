@@ -1,4 +1,4 @@
-use Prim.Native.Nat.{◌+◌, ◌-◌}
+use Prim.Native.Nat.{◌+◌}
 use mathlib.Core.Path.{◌≡◌, ◌∙◌}
 use native.Mathlib.Omega.{arith}
 use Rattle.text_xml_out.proofs.Sizes.{bytes_to, bytes_none, bytes_all, bytes_below, node_digits, node_more}
@@ -14,12 +14,6 @@ own-bytes-requires c = node_digits c.requires c.loop-v-test.true c.second_word.e
 
 pub overflow_add-bytes : goal.overflow_add-bytes
 overflow_add-bytes c = let more : c.loop-v.bytes + c.own-bytes.result ≡ bytes_to c.args.t.now (c.loop-v.v + 1) = node_more c.requires c.loop-v-test.true c.second_word.ensures c.digits.ensures c.word.ensures c.own-bytes.ensures c.loop-v.invariant.1 in omega (arith, more, bytes_below c.requires (c.loop-v.v + 1) (omega arith))
-
-pub overflow_add-v : goal.overflow_add-v
-overflow_add-v c = omega arith
-
-pub loop-v-smaller : goal.loop-v-smaller
-loop-v-smaller c = omega arith
 
 pub loop-v-preserved : goal.loop-v-preserved
 loop-v-preserved c = let more : c.loop-v.bytes + c.own-bytes.result ≡ bytes_to c.args.t.now (c.loop-v.v + 1) = node_more c.requires c.loop-v-test.true c.second_word.ensures c.digits.ensures c.word.ensures c.own-bytes.ensures c.loop-v.invariant.1 in (omega arith, more)

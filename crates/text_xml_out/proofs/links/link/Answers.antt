@@ -3,13 +3,8 @@ use native.Mathlib.Omega.{arith}
 use Rattle.text_xml_out.proofs.Linking.{link_none, link_all, link_up, link_more}
 use Rattle.text_xml_out.proofs.links.link.Goals as goal
 
--- a parent is less
-
 pub loop-v-init : goal.loop-v-init
 loop-v-init c = link_none c.requires
-
-pub overflow_sub-v : goal.overflow_sub-v
-overflow_sub-v c = omega arith
 
 pub offset_bounds-first-u : goal.offset_bounds-first-u
 offset_bounds-first-u c = let up : c.first_word-u.result < c.loop-v.v - 1 = link_up c.requires c.loop-v.invariant c.loop-v-test.true c.first_word-u.ensures in omega (arith, up)
@@ -17,23 +12,11 @@ offset_bounds-first-u c = let up : c.first_word-u.result < c.loop-v.v - 1 = link
 pub bounds-first-u : goal.bounds-first-u
 bounds-first-u c = let up : c.first_word-u.result < c.loop-v.v - 1 = link_up c.requires c.loop-v.invariant c.loop-v-test.true c.first_word-u.ensures in omega (arith, up)
 
-pub offset_bounds-next-v : goal.offset_bounds-next-v
-offset_bounds-next-v c = omega arith
-
-pub bounds-next-v : goal.bounds-next-v
-bounds-next-v c = omega arith
-
-pub overflow_cast-first : goal.overflow_cast-first
-overflow_cast-first c = omega arith
-
 pub offset_bounds-first-u-in-loop-v : goal.offset_bounds-first-u-in-loop-v
 offset_bounds-first-u-in-loop-v c = let up : c.first_word-u.result < c.loop-v.v - 1 = link_up c.requires c.loop-v.invariant c.loop-v-test.true c.first_word-u.ensures in omega (arith, up)
 
 pub bounds-first-u-in-loop-v : goal.bounds-first-u-in-loop-v
 bounds-first-u-in-loop-v c = let up : c.first_word-u.result < c.loop-v.v - 1 = link_up c.requires c.loop-v.invariant c.loop-v-test.true c.first_word-u.ensures in omega (arith, up)
-
-pub loop-v-smaller : goal.loop-v-smaller
-loop-v-smaller c = omega arith
 
 pub loop-v-preserved : goal.loop-v-preserved
 loop-v-preserved c = link_more c.requires c.loop-v.invariant c.loop-v-test.true c.first_word-u.ensures

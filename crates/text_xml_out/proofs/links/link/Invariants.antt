@@ -1,10 +1,6 @@
 -- The nodes from v on are linked.
-use Prim.Native.Nat.{◌-◌}
 use Rattle.text_xml_out.proofs.Linking.{Linking}
 use Rattle.text_xml_out.proofs.links.link.Given as goal
 
 abbrev pub invariant-loop-v : goal.invariant-loop-v
 invariant-loop-v l = Linking l.t l.initial.first l.initial.next l.first l.next l.v
-
-abbrev pub decreases-loop-v : goal.decreases-loop-v
-decreases-loop-v l = l.v

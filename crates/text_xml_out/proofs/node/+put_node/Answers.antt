@@ -1,5 +1,4 @@
 -- A node between its tags, or by itself: at each call the node's distance to the table's end falls.
-use Prim.Native.Nat.{◌-◌}
 use mathlib.Core.Path.{refl, ◌∙◌}
 use native.Mathlib.Omega.{arith}
 use Rattle.text_xml.specs.Tags.{tags_of}

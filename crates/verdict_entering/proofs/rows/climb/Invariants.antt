@@ -1,5 +1,5 @@
 -- The nodes, from the last down to the root's children.
-use Prim.Native.Nat.{◌≤◌, ◌-◌}
+use Prim.Native.Nat.{◌≤◌}
 use mathlib.Core.Path.{◌≡◌}
 use lib.ListN.{length}
 use Rattle.tables.specs.Words.{nodes}
@@ -8,6 +8,3 @@ use Rattle.verdict_entering.proofs.rows.climb.Given as goal
 
 abbrev pub invariant-loop-v : goal.invariant-loop-v
 invariant-loop-v l = (l.v ≤ nodes l.x) × (length l.own ≡ length l.initial.own) × Climbed l.r l.x l.k l.above l.v l.own
-
-abbrev pub decreases-loop-v : goal.decreases-loop-v
-decreases-loop-v l = l.v

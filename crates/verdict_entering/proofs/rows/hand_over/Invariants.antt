@@ -1,5 +1,5 @@
 -- One byte after the other.
-use Prim.Native.Nat.{◌≤◌, ◌-◌}
+use Prim.Native.Nat.{◌≤◌}
 use mathlib.Core.Path.{◌≡◌}
 use lib.ListN.{length}
 use Rattle.verdict_entering.specs.Climbing.{Handed}
@@ -7,6 +7,3 @@ use Rattle.verdict_entering.proofs.rows.hand_over.Given as goal
 
 abbrev pub invariant-loop-v : goal.invariant-loop-v
 invariant-loop-v l = (l.v ≤ l.n) × (length l.above ≡ length l.initial.above) × (length l.own ≡ length l.initial.own) × Handed l.initial.own l.v l.above l.own
-
-abbrev pub decreases-loop-v : goal.decreases-loop-v
-decreases-loop-v l = l.n - l.v

@@ -1,9 +1,12 @@
--- The branches of the code are those of the definition.
-use Rattle.verdict_entering.proofs.Climbing.{leaves_lands, leaves_passes}
+-- The definition's two parts.
+use borrow.Author.Rules.{rules}
+use Rattle.verdict_entering.specs.Climbing.{leaves}
 use Rattle.verdict_entering.proofs.rows.leaving.Goals as goal
 
 pub returns-then-landing_above : goal.returns-then-landing_above
-returns-then-landing_above c = search leaves_lands
+unfolding leaves
+returns-then-landing_above c = search rules
 
-pub returns : goal.returns
-returns c = search leaves_passes
+pub returns-else-landing_above : goal.returns-else-landing_above
+unfolding leaves
+returns-else-landing_above c = search rules

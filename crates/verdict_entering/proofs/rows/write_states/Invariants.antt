@@ -1,5 +1,5 @@
 -- The states, from the last down.
-use Prim.Native.Nat.{◌≤◌, ◌-◌}
+use Prim.Native.Nat.{◌≤◌}
 use mathlib.Core.Path.{◌≡◌}
 use lib.ListN.{length}
 use Rattle.tables.specs.Words.{nodes}
@@ -9,6 +9,3 @@ use Rattle.verdict_entering.proofs.rows.write_states.Given as goal
 
 abbrev pub invariant-loop-k : goal.invariant-loop-k
 invariant-loop-k l = (l.k ≤ last l.r) × (length l.above ≡ length l.initial.above) × (length l.own ≡ length l.initial.own) × (length l.states ≡ length l.initial.states) × Reached l.r l.x l.k l.above × Clear (nodes l.x) l.own × Written l.r l.x l.k l.states
-
-abbrev pub decreases-loop-k : goal.decreases-loop-k
-decreases-loop-k l = l.k

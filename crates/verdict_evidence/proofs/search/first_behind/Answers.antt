@@ -1,4 +1,3 @@
-use Prim.Native.Nat.{◌-◌}
 use native.Mathlib.Omega.{arith}
 use borrow.Author.Tests.{eq-eqb, ne_eqb}
 use Rattle.verdict_evidence.proofs.Branches.{chosen_byte}
@@ -18,4 +17,4 @@ pub loop-k-preserved : goal.loop-k-preserved
 loop-k-preserved c = first_on _ _ _ c.loop-k.invariant c.loop-k-test.true (chosen_byte _ _ c.byte.ensures) (ne_eqb _ 1 c.if-byte-eq1.false)
 
 pub returns : goal.returns
-returns c = first_none _ _ _ c.loop-k.invariant c.loop-k-test.false
+returns c = first_none _ _ _ c.loop-k.invariant c.loop-k-test.false c.loop-k.auto.k-end

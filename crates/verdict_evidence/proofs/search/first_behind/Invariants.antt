@@ -7,6 +7,3 @@ use Rattle.verdict_evidence.proofs.search.first_behind.Given as goal
 
 abbrev pub invariant-loop-k : goal.invariant-loop-k
 invariant-loop-k l = first_of (λ u. chosen l.row (l.base + u)) l.n ≡ first_from (λ u. chosen l.row (l.base + u)) l.k (l.n - l.k)
-
-abbrev pub decreases-loop-k : goal.decreases-loop-k
-decreases-loop-k l = l.n - l.k

@@ -8,6 +8,3 @@ use Rattle.verdict_evidence.proofs.search.first_both.Given as goal
 
 abbrev pub invariant-loop-v : goal.invariant-loop-v
 invariant-loop-v l = first_of (λ u. chosen l.row u && chosen l.cut u) l.n ≡ first_from (λ u. chosen l.row u && chosen l.cut u) l.v (l.n - l.v)
-
-abbrev pub decreases-loop-v : goal.decreases-loop-v
-decreases-loop-v l = l.n - l.v

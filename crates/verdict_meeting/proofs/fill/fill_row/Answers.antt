@@ -1,4 +1,3 @@
-use Prim.Native.Nat.{◌-◌}
 use Rattle.verdict_meeting.proofs.Cells.{row_on_lem, moves_on}
 use borrow.Author.Rules.{rules}
 use Rattle.verdict_meeting.proofs.fill.fill_row.Goals as goal

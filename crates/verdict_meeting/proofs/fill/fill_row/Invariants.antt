@@ -1,5 +1,5 @@
 -- The cells of the row, one after the other.
-use Prim.Native.Nat.{◌≤◌, ◌-◌}
+use Prim.Native.Nat.{◌≤◌}
 use mathlib.Core.Path.{◌≡◌}
 use lib.ListN.{length}
 use Rattle.tables.specs.Words.{steps}
@@ -8,6 +8,3 @@ use Rattle.verdict_meeting.proofs.fill.fill_row.Given as goal
 
 abbrev pub invariant-loop-j : goal.invariant-loop-j
 invariant-loop-j l = (l.j ≤ l.n) × (l.n ≡ steps l.p) × (l.start ≡ cell_at (steps l.p) l.i 0) × (length l.row ≡ length l.initial.row) × (length l.moves ≡ length l.initial.moves) × RowHeld l.r l.below l.p l.under l.i l.j l.corner l.row × MovesHeld l.r l.below l.p l.under (cell_at (steps l.p) l.i l.j) l.moves
-
-abbrev pub decreases-loop-j : goal.decreases-loop-j
-decreases-loop-j l = l.n - l.j

@@ -1,4 +1,3 @@
-use Prim.Native.Nat.{◌-◌}
 use Rattle.verdict_meeting.proofs.Cells.{row_none, moves_none, moves_all}
 use Rattle.verdict_meeting.proofs.Nearest.{near_none, near_more, near_all}
 use borrow.Author.Rules.{rules}

@@ -10,6 +10,3 @@ use Rattle.verdict_meeting.proofs.witness.trace.Given as goal
 
 abbrev pub invariant-loop-rest : goal.invariant-loop-rest
 invariant-loop-rest l = Rest l.r l.below l.p l.under l.rest l.a l.b l.moves l.out (chain (left l.n (meeting_of l.r l.below l.p l.under l.i l.j)) ++ drop (2 * l.n) l.initial.out) (length l.initial.out)
-
-abbrev pub decreases-loop-rest : goal.decreases-loop-rest
-decreases-loop-rest l = l.rest

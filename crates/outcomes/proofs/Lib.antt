@@ -1,0 +1,2 @@
+-- Laws of what operations find.
+pub mod Found

@@ -1,0 +1,2 @@
+-- What a reader must believe of what operations find.
+pub mod Numbers
