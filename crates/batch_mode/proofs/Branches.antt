@@ -5,9 +5,13 @@ use mathlib.Core.Bool.{Bool, true, false, ◌||◌}
 use mathlib.Core.Logic.{◌⊎◌, inl, inr, ◌↔◌}
 use lib.Dec.{eqb}
 use borrow.Author.Tests.{eqb-true}
-use Rattle.tables.specs.Checks.{Fine}
-use Rattle.tables.proofs.Accepted.{held}
-use Rattle.batch_mode.specs.Modes.{mode_check, mode_of}
+use Rattle.std.specs.Prelude.{cond, Result, Ok, Err}
+use Rattle.std.specs.Result.{result_unwrap_or}
+use Rattle.tables.specs.Checks.{test, refuse, Fine}
+use Rattle.tables.specs.declared.refusal.Refusal.{Refusal}
+use Rattle.tables.proofs.Accepted.{never, held}
+use Rattle.batch_mode.specs.Modes.{mode_check, mode_of, Named}
+use Rattle.batch_mode.specs.declared.Mode.{Mode}
 use Rattle.batch_mode.specs.declared.Mode.TheVariants.{Node, Deep}
 
 -- a number is accepted exactly if it is 1 or 2
@@ -31,3 +35,13 @@ one_node = refl
 pub two_deep : mode_of 2 ≡ Deep
 unfolding mode_of
 two_deep = refl
+
+-- a number that names no mode is taken for deep
+pub deep_else : (w : ℕ) (r : Result Mode Refusal) → Named w r → result_unwrap_or r Deep ≡ mode_of w
+unfolding mode_check mode_of
+deep_else w (Ok m) (fine, same) = same
+deep_else w (Err why) e = other (eqb w 1) (eqb w 2) e
+  where
+    other : (a b : Bool) → test (a || b) (refuse 8 6 1) ≡ Err why → Deep ≡ cond a Node Deep
+    other true b e = never e refl
+    other false b e = refl

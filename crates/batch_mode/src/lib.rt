@@ -1,7 +1,8 @@
 // The two modes of a plan and their numbers.
 #![tactic(auto)]
 
-ghost use Rattle.batch_mode.specs.Modes.{Named};
+ghost use Rattle.std.specs.Prelude.{◌≡◌};
+ghost use Rattle.batch_mode.specs.Modes.{mode_check, mode_of, Named};
 
 use tables::refusal::{Reason, Refusal};
 
@@ -30,4 +31,20 @@ impl TryFrom<usize> for Mode {
             }),
         }
     }
+}
+
+// Whether a number names a mode: refusal 8.
+#[tactic(auto, unfolding(crate::specs::Modes::mode_check))]
+pub fn mode_check(word: usize) -> Result<(), Refusal>
+    ensures { result ≡ mode_check word }
+{
+    Mode::try_from(word)?;
+    Ok(())
+}
+
+// The mode that a number names: 1 is node, every other is taken for deep.
+pub fn mode_of(word: usize) -> Mode
+    ensures { result ≡ mode_of word }
+{
+    Mode::try_from(word).unwrap_or(Mode::Deep)
 }
