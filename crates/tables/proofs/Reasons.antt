@@ -1,10 +1,15 @@
--- The numbers of reasons: from 1 to 16, and each reason is the one of its number.
-use Rattle.std.specs.Prelude.{ℕ, ◌≤◌, ◌≡◌}
-use mathlib.Core.Path.{refl}
+-- The numbers of reasons: from 1 to 16, and each reason is the one of its number. Each of these numbers is that of its reason, and any other
+-- number names what 1 names.
+use Rattle.std.specs.Prelude.{ℕ, ◌-◌, ◌≤◌, ◌≡◌}
+use Rattle.std.proofs.Math.ListN.{get_or-map}
+use Rattle.std.proofs.lemmas.List.{get_or_past}
+use Rattle.std.proofs.lemmas.List.FromFn.{get_or-map-range_with_len}
+use mathlib.Core.Path.{refl, sym, ◌∙◌}
 use lib.Dec.{lit≤}
+use native.Mathlib.Omega.{arith}
 use Rattle.tables.specs.declared.refusal.Reason.{Reason}
 use Rattle.tables.specs.declared.refusal.Reason.TheVariants as reason
-use Rattle.tables.specs.Refusals.{number, numbered}
+use Rattle.tables.specs.Refusals.{number, numbered, reasons}
 
 pub number_least : (r : Reason) → 1 ≤ number r
 number_least reason.Words = lit≤ tt
@@ -59,3 +64,14 @@ number_names reason.Line = refl
 number_names reason.Form = refl
 number_names reason.Name = refl
 number_names reason.Identity = refl
+
+pub zero_names_words : numbered 0 ≡ reason.Words
+zero_names_words = refl
+
+pub others_name_words : (n : ℕ) → 17 ≤ n → numbered n ≡ reason.Words
+others_name_words n over = get_or_past reasons (n - 1) reason.Words (omega arith)
+
+pub named_number : (n : ℕ) → 1 ≤ n → n ≤ 16 → number (numbered n) ≡ n
+named_number n least most =
+    sym (get_or-map number reasons (n - 1) reason.Words)
+    ∙ get_or-map-range_with_len (λ k. k) 1 16 (n - 1) n 1 (omega arith) (omega arith)

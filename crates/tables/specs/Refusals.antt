@@ -43,6 +43,10 @@ reasons =
     ∷ reason.Identity
     ∷ []
 
--- the reason of a number from 1 to 16
+-- the reason of a number from 1 to 16; any other is taken for 1
 abbrev pub numbered : ℕ → Reason
 numbered n = get_or reasons (n - 1) reason.Words
+
+-- what is made of a reason is made of that reason itself
+abbrev pub itself : Reason → Reason
+itself r = r

@@ -1,5 +1,6 @@
 ghost use Rattle.std.specs.Prelude.{◌≡◌};
-ghost use Rattle.tables.specs.Refusals.{number};
+ghost use Rattle.tables.specs.Refusals.{itself, number, numbered};
+ghost use Rattle.tables.specs.declared.refusal.Reason.{Reason};
 
 // Why something is refused: documents 01 and 02 number these reasons from 1, in this order.
 #[derive(Clone, Copy, Debug, PartialEq, Eq)]
@@ -57,12 +58,54 @@ pub struct Refusal {
     pub place: usize,
 }
 
-// The one place where a refusal is made.
-pub fn refused(reason: Reason, table: usize, place: usize) -> Result<(), Refusal>
-    ensures { result ≡ Err (record { reason = reason; table = table; place = place }) }
+// What a refusal can be made of: a reason, or the number of one.
+pub trait Why {
+    ghost why: { Self → Reason };
+
+    fn reason(self) -> Reason
+        ensures { result ≡ why self };
+}
+
+impl Why for Reason {
+    ghost why = { itself };
+
+    fn reason(self) -> Reason {
+        self
+    }
+}
+
+// A number that no reason has is taken for 1.
+impl Why for usize {
+    ghost why = { numbered };
+
+    fn reason(self) -> Reason {
+        match self {
+            2 => Reason::Limit,
+            3 => Reason::Axis,
+            4 => Reason::Parent,
+            5 => Reason::Label,
+            6 => Reason::OneStep,
+            7 => Reason::Output,
+            8 => Reason::Kind,
+            9 => Reason::Ends,
+            10 => Reason::Batch,
+            11 => Reason::Room,
+            12 => Reason::Document,
+            13 => Reason::Line,
+            14 => Reason::Form,
+            15 => Reason::Name,
+            16 => Reason::Identity,
+            _ => Reason::Words,
+        }
+    }
+}
+
+// The refusal for a reason, or for the number of one.
+pub fn refused<W: Why>(why: W, table: usize, place: usize) -> Result<(), Refusal>
+    ensures { result ≡ Err (record { reason = W.why why; table = table; place = place }) }
 {
     Err(Refusal {
-        reason,
+        reason: why.reason(),
         table,
         place,
     })
